@@ -21,6 +21,11 @@ use Rattle.dcc_map.specs.Side.{Coming, Leaves, machine_side, text_side, event_of
 use Rattle.dcc_map.specs.Agreed.{Tallies, beside, Lists, AreWhole, HaveCommon, Differs}
 use Rattle.dcc_map.proofs.CommonLaws.{common_first, common_second, common_differ, events-append, length-events, zip-append, length-zip}
 
+-- what is no event is none
+pub no_event : (o : Option Event) → ((event : Event) → o ≡ Some event → ⊥) → o ≡ None
+no_event None no_some = refl
+no_event (Some event) no_some = absurd (no_some event refl)
+
 module _ (cpu : Cpu) (tree : Tree) (lists : Lists) where
   -- at the beginning
   pub common_whole : (m : MachineSide) (t : TextSide) (tally : Tally) → AreWhole cpu tree m t tally lists → HaveCommon cpu tree m t tally lists 0

@@ -32,11 +32,11 @@ turn_quiet tree (ends_switch rest) s none = turn_quiet tree rest s none
 -- what happens in the text's step is in the line that the code tells
 pub text_places : (tree : Tree) (s : State) (number : ℕ) (happened : List Event) → s.end ≡ running → IsLine (next_line s.rest) number
     → (step tree s).events ≡ s.events ++ happened → placed_at (line_of s) happened ≡ placed_at number happened
-text_places tree s number happened runs in_line events = by (next_line s.rest) refl in_line
+text_places tree s number happened going in_line events = by (next_line s.rest) refl in_line
   where
     none : next_line s.rest ≡ None → happened ≡ []
     none is =
-        let moved : step tree s ≡ step_at tree s.rest s = ap (λ e. if is_over e then s else step_at tree s.rest s) runs in
+        let moved : step tree s ≡ step_at tree s.rest s = ap (λ e. if is_over e then s else step_at tree s.rest s) going in
         append_cancel_left s.events happened []
         (sym events ∙ ap (λ (t : State). t.events) moved ∙ turn_quiet tree s.rest s is ∙ sym (append-nil s.events))
 

@@ -1,15 +1,19 @@
 -- The events that are pending after a step, and the keys that are left.
-use Rattle.std.proofs.Common.{◌≡◌, ℕ, List, [], ◌∷◌, ◌++◌, length, map, Option, Some, None, refl, sym, ap, ◌∙◌, arith}
+use Rattle.std.proofs.Common.{◌≡◌, ℕ, ◌+◌, List, [], ◌∷◌, ◌++◌, length, map, Option, Some, None, refl, sym, ap, ◌∙◌, arith}
 use Rattle.std.specs.Prelude.{MatchOption, option_to_list}
 use Rattle.dcc_run.specs.Event.{Event as RunEvent, writes}
 use Rattle.dcc_map.specs.declared.event.Event.{Event}
 use Rattle.dcc_map.specs.declared.event.Event.TheVariants.{Wrote}
-use Rattle.dcc_map.specs.Placed.{placed_at}
+use Rattle.dcc_map.specs.Placed.{Placed, placed_at}
 use Rattle.dcc_map.specs.Side.{event_of, key_event}
 
 code_writes : (bytes : List ℕ) → map event_of (map Wrote bytes) ≡ writes bytes
 code_writes [] = refl
 code_writes (b ∷ bytes) = ap (λ l. event_of (Wrote b) ∷ l) (code_writes bytes)
+
+-- at the beginning of a run nothing is pending
+pub begun : (at : ℕ) (held : List Event) (events : List Placed) → held ≡ [] → events ≡ placed_at at (map event_of held) ++ events
+begun at held events none = sym (ap (λ (l : List Event). placed_at at (map event_of l) ++ events) none)
 
 pub none_pending : (at : ℕ) (held : List Event) → placed_at at (map event_of held) ≡ [] → held ≡ []
 none_pending at [] none = refl

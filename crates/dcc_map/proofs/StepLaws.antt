@@ -19,10 +19,10 @@ written_of : (echo : Bool) (byte : ℕ) → Took byte ∷ writes (written_by (ke
 written_of echo byte = ap (λ (bytes : List ℕ). Took byte ∷ writes bytes) (written-writes (echoed echo byte))
 
 -- the code stands for the next state now, this input is left, and this has happened
-pub record HasStepped {W C S : Type 0} (executor : Executor W C S) (w : W) (s : S) (now : C) (left : List ℕ)
+pub record HasStepped {W C S : Type 0} (executor : Executor W C S) (w : W) (s : S) (now : C) (input : List ℕ)
     (happened : List Event) : Type 0 where
   pub stands : executor.stands w now (step_in executor w s)
-  pub left : left_in executor w (step_in executor w s) ≡ left
+  pub left : left_in executor w (step_in executor w s) ≡ input
   pub events : events_in executor w (step_in executor w s) ≡ events_in executor w s ++ happened
 
 module _ {W C S : Type 0} (executor : Executor W C S) (laws : IsLawfulExecutor executor) (w : W)
@@ -84,7 +84,7 @@ module _ {W C S : Type 0} (executor : Executor W C S) (laws : IsLawfulExecutor e
         | takes_key k ↦ absurd (clash (sym (k.key_left 0) ∙ c.left))
       ]
     where
-      clash : [] ≡ 0 ∷ [] → ⊥
+      clash : ◌≡◌ {A = List ℕ} [] (0 ∷ []) → ⊥
       clash e = cc
 
   -- a step that failed while a key was withheld takes one
@@ -98,7 +98,7 @@ module _ {W C S : Type 0} (executor : Executor W C S) (laws : IsLawfulExecutor e
         | takes_key k ↦ k
       ]
     where
-      clash : 0 ∷ [] ≡ [] → ⊥
+      clash : ◌≡◌ {A = List ℕ} (0 ∷ []) [] → ⊥
       clash e = cc
 
   module _ (takes : TakesKey console (console.system.events s) next) where

@@ -1,4 +1,5 @@
-use Rattle.std.proofs.Common.{ap, ◌∙◌, sym}
+use Rattle.std.proofs.Common.{refl, sym, ap, ◌∙◌}
+use Rattle.std.proofs.lemmas.Bool.{false≢true}
 use Rattle.dcc_step.specs.Stepped.{machine}
 use Rattle.dcc_step.proofs.Laws.{machine_executes}
 use Rattle.dcc_map.specs.Compared.{address_of}
@@ -27,4 +28,8 @@ step-requires-clause-unwritten c =
     c.steps.invariant.unwritten (none_pending c.steps.self.at c.steps.self.pending.items (c.is_silent.ensures.0 c.steps-test.true).0)
 
 pub returns : goal.returns
-returns c cpu coming end before = ?
+returns c cpu coming end before =
+    leaves_first machine machine_executes address_of cpu (machine_side c.steps.self) c.steps.self.pending.items c.pop_front.new.self.items
+    c.steps.self.at coming end c.pop_front.result refl c.pop_front.ensures.items c.pop_front.ensures.cases
+    (λ may. false≢true (sym c.steps-test.false ∙ c.is_silent.ensures.1 may))
+    (c.steps.invariant.comes cpu coming end before)

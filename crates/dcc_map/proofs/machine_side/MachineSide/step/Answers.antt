@@ -38,11 +38,11 @@ returns-in_default-clause-comes c cpu coming end before =
     let given = subst (λ (l : List ℕ). Steps machine made (beside_console old.machine (Some (0 ∷ [])) (Some l)) (beside_console c.step.new.self (Some (0 ∷ [])) (Some out))) c.requires.unwritten done in
     on_ok_weaker c.add_written.result
     (λ written.
-    let now : MachineSide = record old { machine = c.step.new.self; at = c.ip-at.result; steps = old.steps - 1; end = c.end_of.result; pending = c.add_written.new.events } in
+    let now : MachineSide = record old { machine = c.step.new.self; at = c.ip-at.result; steps = old.steps - 1; end = c.end_of-self.result; pending = c.add_written.new.events } in
     let more : old.steps ≡ suc now.steps = omega (arith, c.requires.may.1) in
     coming_withheld machine machine_executes address_of cpu (machine_apart (step cpu)) (machine_kind cpu) (machine_side old) (machine_side now) coming end c.ip-at.result before c.requires.may more
     (λ s happened stands runs events. machine_places cpu c.args.self.now.machine s c.ip-at.result happened stands c.ip-at.ensures)
-    (ended_as machine c.step.new.self (end_told c.step.result) (end_of c.end_of.result) c.end_of.ensures c.step.ensures.answer)
+    (ended_as machine c.step.new.self (end_told c.step.result) (end_of c.end_of-self.result) c.end_of-self.ensures c.step.ensures.answer)
     out refl
     (pending_written old.at c.ip-at.result old.pending.items c.add_written.new.events.items _ c.requires.may.0 written
     ∙ ap (λ (l : List ℕ). placed_at c.ip-at.result (writes l)) c.taken.ensures)

@@ -1,4 +1,5 @@
-use Rattle.std.proofs.Common.{ap, ◌∙◌, sym}
+use Rattle.std.proofs.Common.{refl, sym, ap, ◌∙◌}
+use Rattle.std.proofs.lemmas.Bool.{false≢true}
 use Rattle.dcc_crun.specs.Stepped.{texts}
 use Rattle.dcc_crun.proofs.RunLaws.{texts_execute}
 use Rattle.dcc_map.specs.Compared.{line_of}
@@ -27,4 +28,8 @@ step-requires-clause-unwritten c =
     c.steps.invariant.unwritten (none_pending c.steps.self.line c.steps.self.pending.items (c.is_silent.ensures.0 c.steps-test.true).0)
 
 pub returns : goal.returns
-returns c tree coming end before = ?
+returns c tree coming end before =
+    leaves_first texts texts_execute line_of tree (text_side c.steps.self) c.steps.self.pending.items c.pop_front.new.self.items
+    c.steps.self.line coming end c.pop_front.result refl c.pop_front.ensures.items c.pop_front.ensures.cases
+    (λ may. false≢true (sym c.steps-test.false ∙ c.is_silent.ensures.1 may))
+    (c.steps.invariant.comes tree coming end before)

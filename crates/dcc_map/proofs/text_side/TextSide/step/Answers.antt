@@ -37,11 +37,11 @@ returns-in_default-clause-comes c tree coming end before =
     let given = subst (λ (l : List ℕ). Steps texts made (beside_console old.run (Some (0 ∷ [])) (Some l)) (beside_console c.step.new.self (Some (0 ∷ [])) (Some out))) c.requires.unwritten done in
     on_ok_weaker c.add_written.result
     (λ written.
-    let now : TextSide = record old { run = c.step.new.self; line = c.line-line.result; steps = old.steps - 1; end = c.end_of.result; pending = c.add_written.new.events } in
+    let now : TextSide = record old { run = c.step.new.self; line = c.line-line.result; steps = old.steps - 1; end = c.end_of-self.result; pending = c.add_written.new.events } in
     let more : old.steps ≡ suc now.steps = omega (arith, c.requires.may.1) in
     coming_withheld texts texts_execute line_of tree (text_apart tree) (text_kind tree) (text_side old) (text_side now) coming end c.line-line.result before c.requires.may more
     (λ s happened stands runs events. text_places tree s c.line-line.result happened runs (c.line-line.ensures tree s stands runs) events)
-    (ended_as texts c.step.new.self (end_told c.step.result) (end_of c.end_of.result) c.end_of.ensures c.step.ensures.answer)
+    (ended_as texts c.step.new.self (end_told c.step.result) (end_of c.end_of-self.result) c.end_of-self.ensures c.step.ensures.answer)
     out refl
     (pending_written old.line c.line-line.result old.pending.items c.add_written.new.events.items _ c.requires.may.0 written
     ∙ ap (λ (l : List ℕ). placed_at c.line-line.result (writes l)) c.taken.ensures)

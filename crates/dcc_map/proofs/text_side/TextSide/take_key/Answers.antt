@@ -16,5 +16,5 @@ use Rattle.dcc_map.proofs.SideLaws.{coming_key}
 use Rattle.dcc_map.proofs.BothSides.{text_made, made_by, ended_as}
 use Rattle.dcc_map.proofs.text_side.TextSide.take_key.Goals as goal
 
-pub returns-in_ok-push_back-clause-comes : goal.returns-in_ok-push_back-clause-comes
-returns-in_ok-push_back-clause-comes c = ?
+pub returns : goal.returns
+returns c = ?
