@@ -1,5 +1,5 @@
 -- What a tally holds after one event more, and the pairs that it gives.
-use Rattle.std.proofs.Common.{◌≡◌, ◌≢◌, ◌⊎◌, inl, inr, ℕ, zero, suc, ◌+◌, ◌<◌, ◌≤◌, Bool, true, false, List, [], ◌∷◌, ◌++◌, length, map, Option, Some, None, refl, sym, ap, ◌∙◌, subst, arith, length-append}
+use Rattle.std.proofs.Common.{◌≡◌, ◌≢◌, ◌⊎◌, inl, inr, ℕ, zero, suc, ◌+◌, ◌<◌, ◌≤◌, ◌^◌, Bool, true, false, List, [], ◌∷◌, ◌++◌, length, map, Option, Some, None, refl, sym, ap, ◌∙◌, subst, arith, length-append}
 use Rattle.std.specs.Prelude.{◌==◌, ◌&&◌, cond, All, count_by, nat_lt}
 use Rattle.std.specs.Option.{unwrap_or}
 use Rattle.std.specs.declared.cmp.Ordering.{Ordering}
@@ -8,17 +8,20 @@ use Rattle.std.specs.Ordering.{is_eq, nat_cmp, ordering_then}
 use Rattle.std.specs.List.Sorted.{IsStrictlySortedBy}
 use Rattle.std.specs.List.{AllByRecursion}
 use Rattle.std.specs.Map.{lookup, keys_of, values_of}
-use Rattle.std.specs.BTreeMap.{BTreeMap, get, values}
+use Rattle.std.specs.BTreeMap.{BTreeMap, get, values, insert_entry}
 use Rattle.std.proofs.lemmas.Bool.Decides.{nat_tests}
 use Rattle.std.proofs.lemmas.List.{map-append}
+use Rattle.std.proofs.lemmas.Map.Views.{All-values-insert_entry}
 use Rattle.std.proofs.lemmas.List.Sums.{sum_by-append, count_by-le-length}
 use Rattle.dcc_run.specs.Event.{Event as RunEvent, Wrote, Took, MetEnd, byte_written, written_by}
 use Rattle.dcc_run.proofs.EventLaws.{written-append}
 use Rattle.dcc_map.specs.declared.event.Event.{Event}
+use Rattle.dcc_map.specs.declared.event.Event.TheVariants.{Wrote as Written, Took as Taken, MetEnd as NoKey}
 use Rattle.dcc_map.specs.declared.report.Pair.{Pair}
+use Rattle.dcc_map.specs.declared.tally.Tally.{Tally}
 use Rattle.dcc_map.specs.Placed.{Placed, events_of}
 use Rattle.dcc_map.specs.Comparison.{is_at, count_beside, count_in, pair_cmp, ArePairs}
-use Rattle.dcc_map.specs.Agreed.{site_cmp, machine_half, beside}
+use Rattle.dcc_map.specs.Agreed.{site_cmp, machine_half, beside, Tallies}
 use Rattle.dcc_map.specs.Side.{event_of}
 use Rattle.dcc_map.proofs.CommonLaws.{events-append}
 
@@ -125,6 +128,37 @@ bytes-few both =
     let long = length-halves both in
     omega (arith, few, long)
 
+-- an event that writes no byte
+pub not_written : (event : Event) → ((byte : ℕ) → event ≡ Written byte → ⊥) → length (byte_written (event_of event)) ≡ 0
+not_written (Written byte) not = absurd (not byte refl)
+not_written (Taken byte) not = refl
+not_written NoKey not = refl
+
+-- after one event more
+pub tallied : (both : List (Placed × Placed)) (line at : ℕ) (event : Event) (old mid : Tally) (counts : BTreeMap (ℕ × ℕ) ℕ) (had v : ℕ)
+    → length both < 2 ^ 63 → Tallies both old → mid.counts ≡ old.counts
+    → (old.bytes < 2 ^ 63 → mid.bytes ≡ old.bytes + length (byte_written (event_of event)))
+    → had ≡ unwrap_or (get site_cmp mid.counts (line, at)) 0 → (had < 2 ^ 63 → v ≡ had + 1)
+    → ((q : ℕ × ℕ) → get site_cmp counts q ≡ cond (is_eq (site_cmp (line, at) q)) (Some v) (get site_cmp mid.counts q))
+    → counts.entries ≡ insert_entry site_cmp mid.counts.entries (line, at) v
+    → Tallies (both ++ beside line at event ∷ []) (record mid { counts = counts })
+tallied both line at event old mid counts had v few tallies same bytes is more updates entries =
+    let held : (l a : ℕ) → unwrap_or (get site_cmp mid.counts (l, a)) 0 ≡ count_beside l a both =
+    λ l a. ap (λ m. unwrap_or (get site_cmp m (l, a)) 0) same ∙ tallies.counts l a in
+    let known : had ≡ count_beside line at both = is ∙ held line at in
+    let rare = count-few line at both in
+    let one : v ≡ had + 1 = more (omega (arith, few, known, rare)) in
+    let brief = bytes-few both in
+    let written = bytes (let told = tallies.bytes in omega (arith, few, brief, told)) in
+    record {
+      bytes = written ∙ ap (λ n. n + length (byte_written (event_of event))) tallies.bytes ∙ sym (bytes_step both line at event);
+      some =
+          subst (λ (es : List ((ℕ × ℕ) × ℕ)). All (λ count. 0 < count) (values_of es)) (sym entries)
+          (All-values-insert_entry site_cmp (line, at) v (λ count. 0 < count) mid.counts.entries
+          (subst (λ (m : BTreeMap (ℕ × ℕ) ℕ). All (λ count. 0 < count) (values m)) (sym same) tallies.some) (omega (arith, one)));
+      counts = counts_step mid.counts counts both line at v event held (one ∙ ap (λ n. n + 1) is) updates;
+    }
+
 -- Pairs.
 
 abbrev pub pair_of : (ℕ × ℕ) × ℕ → Pair
@@ -137,12 +171,14 @@ pairs_counts (e ∷ entries) line at =
     let same : ((e.0.0 == line) && (e.0.1 == at)) ≡ is_eq (site_cmp (line, at) e.0) =
     ap (λ b. b && (e.0.1 == at)) (turned e.0.0 line) ∙ ap (λ b. (line == e.0.0) && b) (turned e.0.1 at) ∙ sym (site-eq line at e.0.0 e.0.1) in
     ap (λ b. cond b e.1 (count_in (map pair_of entries) line at)) same
-    ∙ choose (is_eq (site_cmp (line, at) e.0))
+    ∙ choose (is_eq (site_cmp (line, at) e.0)) (pairs_counts entries line at)
   where
-    choose : (b : Bool) → cond b e.1 (count_in (map pair_of entries) line at)
+    choose : (b : Bool)
+        → count_in (map pair_of entries) line at ≡ unwrap_or (lookup (λ k. is_eq (site_cmp (line, at) k)) entries) 0
+        → cond b e.1 (count_in (map pair_of entries) line at)
         ≡ unwrap_or (cond b (Some e.1) (lookup (λ k. is_eq (site_cmp (line, at) k)) entries)) 0
-    choose true = refl
-    choose false = pairs_counts entries line at
+    choose true later = refl
+    choose false later = later
 
 below_all : (e : (ℕ × ℕ) × ℕ) (entries : List ((ℕ × ℕ) × ℕ)) → AllByRecursion (λ k. site_cmp e.0 k ≡ Less) (keys_of entries)
     → AllByRecursion (λ p. pair_cmp (pair_of e) p ≡ Less) (map pair_of entries)

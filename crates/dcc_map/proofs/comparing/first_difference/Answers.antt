@@ -41,7 +41,7 @@ returns-then-not-are_same c cpu tree lists whole =
     c.in-Some.is (c.in_ok-first.ensures cpu common.machine_rest lists.machine_end common.machine))
     (subst (λ (o : Option Event). Leaves texts line_of tree (text_side c.next-in-loop-count.new.self) c.next-in-loop-count.new.self.line common.text_rest lists.text_end o)
     c.in-Some-2.is (c.in_ok-second.ensures tree common.text_rest lists.text_end common.text))
-    (λ same. let told = c.are_same.ensures.1 same in let other = c.if-not-are_same.true in search rules)
+    (λ same. false≢true (sym c.if-not-are_same.true ∙ c.are_same.ensures.1 same))
 
 pub loop-count-preserved : goal.loop-count-preserved
 loop-count-preserved c cpu tree lists whole =
@@ -52,7 +52,7 @@ loop-count-preserved c cpu tree lists whole =
     c.in-Some.is (c.in_ok-first.ensures cpu common.machine_rest lists.machine_end common.machine))
     (subst (λ (o : Option Event). Leaves texts line_of tree (text_side c.next-in-loop-count.new.self) c.next-in-loop-count.new.self.line common.text_rest lists.text_end o)
     c.in-Some-2.is (c.in_ok-second.ensures tree common.text_rest lists.text_end common.text))
-    (let same = c.if-not-are_same.false in c.are_same.ensures.0 ?)
+    (c.are_same.ensures.0 c.if-not-are_same.false)
     (c.in_ok-count.ensures _ (common_few cpu tree lists l.machine l.text l.tally l._count common whole.few).1 common.tallies)
 
 pub returns : goal.returns

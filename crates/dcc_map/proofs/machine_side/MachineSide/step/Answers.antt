@@ -45,6 +45,6 @@ returns-in_default-clause-comes c cpu coming end before =
     (ended_as machine c.step.new.self (end_told c.step.result) (end_of c.end_of-self.result) c.end_of-self.ensures c.step.ensures.answer)
     out refl
     (pending_written old.at c.ip-at.result old.pending.items c.add_written.new.events.items _ c.requires.may.0 written
-    ∙ ap (λ (l : List ℕ). placed_at c.ip-at.result (writes l)) c.taken.ensures)
+    ∙ ap (λ (l : List ℕ). placed_at c.ip-at.result (writes l)) (c.deref.ensures.value ∙ c.taken.ensures))
     given)
     c.add_written.ensures

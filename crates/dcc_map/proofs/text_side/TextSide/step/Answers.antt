@@ -44,6 +44,6 @@ returns-in_default-clause-comes c tree coming end before =
     (ended_as texts c.step.new.self (end_told c.step.result) (end_of c.end_of-self.result) c.end_of-self.ensures c.step.ensures.answer)
     out refl
     (pending_written old.line c.line-line.result old.pending.items c.add_written.new.events.items _ c.requires.may.0 written
-    ∙ ap (λ (l : List ℕ). placed_at c.line-line.result (writes l)) c.taken.ensures)
+    ∙ ap (λ (l : List ℕ). placed_at c.line-line.result (writes l)) (c.deref.ensures.value ∙ c.taken.ensures))
     given)
     c.add_written.ensures
