@@ -20,18 +20,22 @@ use Rattle.dcc_map.specs.Placed.{Placed, placed_at, step_events, placed_events}
 
 take_while-few : (p : ℕ → Bool) (xs : List ℕ) → length (take_while p xs) ≤ length xs
 take_while-few p [] = omega arith
-take_while-few p (x ∷ xs) = kept (p x)
+take_while-few p (x ∷ xs) = kept (p x) (take_while-few p xs)
   where
-    kept : (b : Bool) → length (if b then x ∷ take_while p xs else []) ≤ suc (length xs)
-    kept true = let few = take_while-few p xs in omega (arith, few)
-    kept false = omega arith
+    kept : (b : Bool) → length (take_while p xs) ≤ length xs → length (if b then x ∷ take_while p xs else []) ≤ suc (length xs)
+    kept true few = omega (arith, few)
+    kept false few = omega arith
+
+from-long : (s : State) (segment offset count : ℕ) → length (bytes_from s segment offset count) ≡ count
+unfolding bytes_from
+from-long s segment offset count = length-map-range_with_len (λ k. byte_in s segment ((offset + k) % 65536)) 0 count
 
 string-few : (s : State) → length (dos_string s) ≤ 65536
-unfolding dos_string bytes_from
+unfolding dos_string
 string-few s =
-    let few = take_while-few is_not_dollar (bytes_from s (data_segment s) (word_in s Dx) 65536) in
-    let long = length-map-range_with_len (λ k. byte_in s (data_segment s) ((word_in s Dx + k) % 65536)) 0 65536 in
-    omega (arith, few, long)
+    subst (λ n. length (take_while is_not_dollar (bytes_from s (data_segment s) (word_in s Dx) 65536)) ≤ n)
+    (from-long s (data_segment s) (word_in s Dx) 65536)
+    (take_while-few is_not_dollar (bytes_from s (data_segment s) (word_in s Dx) 65536))
 
 length-writes : (bytes : List ℕ) → length (writes bytes) ≡ length bytes
 length-writes [] = refl

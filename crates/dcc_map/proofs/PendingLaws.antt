@@ -1,11 +1,15 @@
 -- The events that are pending after a step, and the keys that are left.
-use Rattle.std.proofs.Common.{◌≡◌, ℕ, ◌+◌, List, [], ◌∷◌, ◌++◌, length, map, Option, Some, None, refl, sym, ap, ◌∙◌, arith}
-use Rattle.std.specs.Prelude.{MatchOption, option_to_list}
+use Rattle.std.proofs.Common.{◌≡◌, ℕ, List, [], ◌∷◌, ◌++◌, length, map, drop, Option, refl, sym, ap, ◌∙◌, arith}
 use Rattle.dcc_run.specs.Event.{Event as RunEvent, writes}
 use Rattle.dcc_map.specs.declared.event.Event.{Event}
 use Rattle.dcc_map.specs.declared.event.Event.TheVariants.{Wrote}
 use Rattle.dcc_map.specs.Placed.{Placed, placed_at}
 use Rattle.dcc_map.specs.Side.{event_of, key_event}
+
+-- a list without its first item is shorter, if it has one
+pub nothing_first : {X : Type 0} (xs : List X) → xs ≡ drop 1 xs → xs ≡ []
+nothing_first [] same = refl
+nothing_first (x ∷ xs) same = let long = ap (λ l. length l) same in absurd (omega (arith, long))
 
 code_writes : (bytes : List ℕ) → map event_of (map Wrote bytes) ≡ writes bytes
 code_writes [] = refl
@@ -36,10 +40,5 @@ pending_key before at held mid items key bytes none first is =
     ∙ ap (λ (l : List RunEvent). placed_at at (event_of (key_event key) ∷ l)) (code_writes bytes)
 
 -- where there was no key, none is left
-pub no_keys : (keys now : List ℕ) → MatchOption None ((length keys ≡ 0) × (length now ≡ 0)) (λ (_ : ℕ). length now + 1 ≡ length keys)
-    → (keys ≡ []) × (now ≡ [])
-no_keys keys now gone = (empty keys gone.0, empty now gone.1)
-  where
-    empty : (xs : List ℕ) → length xs ≡ 0 → xs ≡ []
-    empty [] none = refl
-    empty (x ∷ xs) none = absurd (omega (arith, none))
+pub no_keys : (keys now : List ℕ) → keys ≡ now → now ≡ drop 1 keys → (keys ≡ []) × (now ≡ [])
+no_keys keys now same rest = let none = nothing_first keys (same ∙ rest) in (none, sym same ∙ none)

@@ -1,6 +1,6 @@
 -- What is still to come of a run, before and after its steps.
 use Rattle.std.proofs.Common.{◌≡◌, ◌≢◌, ◌⊎◌, inl, inr, ℕ, zero, suc, ◌+◌, ◌-◌, ◌<◌, true, List, [], ◌∷◌, ◌++◌, length, drop, map, Option, Some, None, refl, sym, ap, ◌∙◌, subst, append_assoc, arith}
-use Rattle.std.specs.Prelude.{MatchOption, option_to_list}
+use Rattle.std.specs.Prelude.{option_to_list}
 use Rattle.std.proofs.Math.Seq.{drop-append_seam}
 use Rattle.std.proofs.lemmas.List.{append-nil, drop_all}
 use Rattle.dcc_run.specs.End.{End as RunEnd, Running as running, Exit as exited, Divide as divided, Outside as outside, Stuck as stuck, is_over}
@@ -15,7 +15,7 @@ use Rattle.dcc_map.specs.declared.event.Event.{Event}
 use Rattle.dcc_map.specs.Placed.{Placed, placed_at, step_events, placed_events}
 use Rattle.dcc_map.specs.Side.{Side, event_of, key_event, MaySteps, Coming, Leaves, Refuses}
 use Rattle.dcc_map.proofs.StepKinds.{IsApart, TakesKey, StepKind}
-use Rattle.dcc_map.proofs.PendingLaws.{no_keys}
+use Rattle.dcc_map.proofs.PendingLaws.{nothing_first, no_keys}
 use Rattle.dcc_map.proofs.StepLaws.{HasStepped, made_withheld, refused_withheld, made_key, made_at_end}
 
 ended_over : (end : RunEnd) → end ≢ running → is_over end ≡ true
@@ -75,7 +75,7 @@ module _ {W C S : Type 0} (executor : Executor W C S) (laws : IsLawfulExecutor e
   -- what is left by the answer of the first event that is pending
   pub leaves_first : (side : Side C) (held items : List Event) (at : ℕ) (coming : List Placed) (end : RunEnd) (answer : Option Event)
       → side.pending ≡ placed_at at (map event_of held) → held ≡ option_to_list answer ++ items
-      → MatchOption answer ((length held ≡ 0) × (length items ≡ 0)) (λ _. length items + 1 ≡ length held) → ¬ MaySteps side
+      → items ≡ drop 1 held → ¬ MaySteps side
       → Coming executor place w side coming end
       → Leaves executor place w (record side { pending = placed_at at (map event_of items) }) at coming end answer
   leaves_first side held items at coming end (Some event) pending is gone not c = (
@@ -84,7 +84,7 @@ module _ {W C S : Type 0} (executor : Executor W C S) (laws : IsLawfulExecutor e
     record { state = c.state; stands = c.stands; left = c.left; told = c.told; events = refl; ends = c.ends },
   )
   leaves_first side held items at coming end None pending is gone not c =
-      let none = nothing side.pending held items pending gone in
+      let none = nothing side.pending held items pending is gone in
       let all = coming_none side coming end c none.0 not in (
         all.0,
         record {
@@ -99,11 +99,13 @@ module _ {W C S : Type 0} (executor : Executor W C S) (laws : IsLawfulExecutor e
         },
       )
     where
-      nothing : (before : List Placed) (held items : List Event) → before ≡ placed_at at (map event_of held)
-          → (length held ≡ 0) × (length items ≡ 0) → (before ≡ []) × (placed_at at (map event_of items) ≡ [])
-      nothing before [] [] is none = (is, refl)
-      nothing before [] (i ∷ items) is none = absurd (omega (arith, none.1))
-      nothing before (h ∷ held) items is none = absurd (omega (arith, none.0))
+      nothing : (before : List Placed) (held items : List Event) → before ≡ placed_at at (map event_of held) → held ≡ items
+          → items ≡ drop 1 held → (before ≡ []) × (placed_at at (map event_of items) ≡ [])
+      nothing before held items pending same gone =
+          let none : held ≡ [] = nothing_first held (same ∙ gone) in (
+            pending ∙ ap (λ (l : List Event). placed_at at (map event_of l)) none,
+            ap (λ (l : List Event). placed_at at (map event_of l)) (sym same ∙ none),
+          )
 
   -- a step more
   coming_step : (side now : Side C) (coming : List Placed) (end : RunEnd) (at : ℕ) (happened : List RunEvent)
@@ -157,7 +159,7 @@ module _ {W C S : Type 0} (executor : Executor W C S) (laws : IsLawfulExecutor e
       -- after a step that took the next key, or met the end of the input, and had failed while a key was withheld
       pub coming_key : (key : Option ℕ) (given : List ℕ) (left : Option (List ℕ)) (out : List ℕ) → given ≡ option_to_list key
           → side.keys ≡ option_to_list key ++ now.keys
-          → MatchOption key ((length side.keys ≡ 0) × (length now.keys ≡ 0)) (λ _. length now.keys + 1 ≡ length side.keys)
+          → now.keys ≡ drop 1 side.keys
           → now.pending ≡ placed_at at (event_of (key_event key) ∷ writes out) → Refuses executor side.code
           → Makes executor (beside_console side.code (Some given) (Some [])) (beside_console now.code left (Some out))
           → Coming executor place w now coming end
@@ -169,7 +171,7 @@ module _ {W C S : Type 0} (executor : Executor W C S) (laws : IsLawfulExecutor e
               refused_withheld executor laws w apart side.code c.state c.stands (kinds c.state) (beside_console side.code (Some (0 ∷ [])) (Some [])) refused
 
           at_key : (key : Option ℕ) → given ≡ option_to_list key → side.keys ≡ option_to_list key ++ now.keys
-              → MatchOption key ((length side.keys ≡ 0) × (length now.keys ≡ 0)) (λ _. length now.keys + 1 ≡ length side.keys)
+              → now.keys ≡ drop 1 side.keys
               → now.pending ≡ placed_at at (event_of (key_event key) ∷ writes out)
               → Makes executor (beside_console side.code (Some (option_to_list key)) (Some [])) (beside_console now.code left (Some out))
               → Coming executor place w now coming end
@@ -177,7 +179,7 @@ module _ {W C S : Type 0} (executor : Executor W C S) (laws : IsLawfulExecutor e
               after_step (Took byte ∷ writes out)
               (made_key executor laws w apart side.code c.state c.stands (kinds c.state) takes (beside_console now.code left (Some out)) out byte now.keys (c.left ∙ keys) refl made) pending
           at_key None given_is keys gone pending made =
-              let none = no_keys side.keys now.keys gone in
+              let none = no_keys side.keys now.keys keys gone in
               let stepped = made_at_end executor laws w apart side.code c.state c.stands (kinds c.state) takes (beside_console now.code left (Some out)) out (c.left ∙ none.0) refl made in
               after_step (MetEnd ∷ writes out)
               (record { stands = stepped.stands; left = stepped.left ∙ sym none.1; events = stepped.events }) pending

@@ -30,6 +30,6 @@ step-requires-clause-unwritten c =
 pub returns : goal.returns
 returns c cpu coming end before =
     leaves_first machine machine_executes address_of cpu (machine_side c.steps.self) c.steps.self.pending.items c.pop_front.new.self.items
-    c.steps.self.at coming end c.pop_front.result refl c.pop_front.ensures.items c.pop_front.ensures.cases
+    c.steps.self.at coming end c.pop_front.result refl c.pop_front.ensures.items c.pop_front.ensures.rest
     (λ may. false≢true (sym c.steps-test.false ∙ c.is_silent.ensures.1 may))
     (c.steps.invariant.comes cpu coming end before)

@@ -30,6 +30,6 @@ step-requires-clause-unwritten c =
 pub returns : goal.returns
 returns c tree coming end before =
     leaves_first texts texts_execute line_of tree (text_side c.steps.self) c.steps.self.pending.items c.pop_front.new.self.items
-    c.steps.self.line coming end c.pop_front.result refl c.pop_front.ensures.items c.pop_front.ensures.cases
+    c.steps.self.line coming end c.pop_front.result refl c.pop_front.ensures.items c.pop_front.ensures.rest
     (λ may. false≢true (sym c.steps-test.false ∙ c.is_silent.ensures.1 may))
     (c.steps.invariant.comes tree coming end before)

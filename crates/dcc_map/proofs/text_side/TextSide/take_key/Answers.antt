@@ -36,7 +36,7 @@ returns-clause-comes c tree coming end before =
     (λ s happened stands runs events. text_places tree s c.line-line.result happened runs (c.line-line.ensures tree s stands runs) events)
     (ended_as texts c.step.new.self (end_told c.step.result) (end_of c.end_of-self.result) c.end_of-self.ensures c.step.ensures.answer)
     key c.new-input.result.left (Some c.step.new.input.left) out (ap (λ s. s.left) c.new-input.ensures ∙ c.in_ok-given.ensures)
-    c.pop_front-key.ensures.items c.pop_front-key.ensures.cases
+    c.pop_front-key.ensures.items c.pop_front-key.ensures.rest
     (pending_key old.line c.line-line.result old.pending.items c.push_back.new.self.items c.add_written.new.events.items key _ c.requires.may.0
     (c.in_ok-push_back-in_default.ensures.items ∙ ap (λ e. old.pending.items ++ e ∷ []) c.key_event.ensures) written
     ∙ ap (λ (l : List ℕ). placed_at c.line-line.result (event_of (key_event key) ∷ writes l)) (c.deref.ensures.value ∙ c.taken.ensures))
