@@ -1,7 +1,8 @@
 -- How many events the machine has at most.
 use Rattle.std.proofs.Common.{◌≡◌, ◌≢◌, ℕ, zero, suc, ◌+◌, ◌*◌, ◌/◌, ◌%◌, ◌-◌, ◌≤◌, Bool, true, false, List, [], ◌∷◌, ◌++◌, length, map, drop, Option, Some, None, refl, sym, ap, ◌∙◌, subst, arith, length-append, length-drop}
-use Rattle.std.specs.Prelude.{if◌then◌else◌, ◌==◌}
-use Rattle.std.specs.List.{take_while, range_with_len}
+use Rattle.std.specs.Prelude.{if◌then◌else◌, ◌==◌, min}
+use Rattle.std.specs.List.{take_while, prefix_len, range_with_len}
+use Rattle.std.proofs.lemmas.List.{length-take}
 use Rattle.std.proofs.lemmas.List.FromFn.{length-map-range_with_len}
 use Rattle.dcc_run.specs.End.{is_over}
 use Rattle.dcc_run.specs.Event.{Event, Wrote, Took, MetEnd, writes}
@@ -19,12 +20,9 @@ use Rattle.dcc_machine.proofs.ConsoleLaws.{op-keeps_events}
 use Rattle.dcc_map.specs.Placed.{Placed, placed_at, step_events, placed_events}
 
 take_while-few : (p : ℕ → Bool) (xs : List ℕ) → length (take_while p xs) ≤ length xs
-take_while-few p [] = omega arith
-take_while-few p (x ∷ xs) = kept (p x) (take_while-few p xs)
-  where
-    kept : (b : Bool) → length (take_while p xs) ≤ length xs → length (if b then x ∷ take_while p xs else []) ≤ suc (length xs)
-    kept true few = omega (arith, few)
-    kept false few = omega arith
+take_while-few p xs =
+    let few : length (take_while p xs) ≡ min (prefix_len p xs) (length xs) = length-take (prefix_len p xs) xs in
+    omega (arith, few)
 
 from-long : (s : State) (segment offset count : ℕ) → length (bytes_from s segment offset count) ≡ count
 unfolding bytes_from
