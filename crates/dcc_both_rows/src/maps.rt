@@ -1,5 +1,5 @@
-//! Runs of executables beside runs of texts: which lines wrote and took what which addresses wrote and took. The reports
-//! come from a reference apart from this code.
+//! Runs of executables beside runs of texts: which lines wrote and took what which addresses wrote and took. The
+//! reports come from a reference apart from this code.
 
 use dcc_machine::Cpu;
 use dcc_map::{Settings, compare, lines};

@@ -18,8 +18,8 @@ use Rattle.dcc_map.specs.Comparison.{IsReport}
 abbrev pub address_of : MachineState → ℕ
 address_of s = s.ip
 
--- The line of the statement that the text executes next, or of the closing brace. Where it has none, in a further turn of
--- a `for`, nothing happens at the console.
+-- The line of the statement that the text executes next, or of the closing brace. Where it has none, in a further
+-- turn of a `for`, nothing happens at the console.
 abbrev pub line_of : TextState → ℕ
 line_of s = unwrap_or (next_line s.rest) 0
 

@@ -63,8 +63,8 @@ both_places (Some of_machine) (Some of_text) = Some (of_text.at, of_machine.at)
 both_places _ _ = None
 
 -- What is told of the machine's list of events and of the text's: how many bytes are written in the events with which
--- both begin, which lines and addresses stand beside each other there, and those of the first event of each after these,
--- where there is one in both lists; and both ends.
+-- both begin, which lines and addresses stand beside each other there, and those of the first event of each after
+-- these, where there is one in both lists; and both ends.
 pub record IsReport (machine text : List Placed) (ends text_ends : RunEnd) (report : Report) : Type 0 where
   pub common : List Event
   pub longest : IsLongestCommon common (events_of machine) (events_of text)

@@ -26,8 +26,8 @@ abbrev pub key_event : Option ℕ → Event
 key_event (Some byte) = Took byte
 key_event None = MetEnd
 
--- What is kept of a run: the code, the input that is left, how many more steps may be made, the events that are pending,
--- and how the run has ended.
+-- What is kept of a run: the code, the input that is left, how many more steps may be made, the events that are
+-- pending, and how the run has ended.
 pub record Side (C : Type 0) : Type 0 where
   pub code : C
   pub keys : List ℕ
@@ -60,6 +60,7 @@ MaySteps side = (side.pending ≡ []) × (0 < side.steps) × (side.end ≡ runni
 -- A step of the code fails at a read while a key is withheld: it is one that takes a key.
 abbrev pub Refuses : {W C S : Type 0} → Executor W C S → C → Type 0
 Refuses executor code =
+    --
     IsRefusedRead executor (beside_console code (Some (0 ∷ [])) (Some [])) (beside_console code (Some (0 ∷ [])) (Some []))
 
 module _ {W C S : Type 0} (executor : Executor W C S) (place : S → ℕ) (w : W) where
