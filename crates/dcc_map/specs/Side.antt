@@ -60,7 +60,6 @@ MaySteps side = (side.pending ≡ []) × (0 < side.steps) × (side.end ≡ runni
 -- A step of the code fails at a read while a key is withheld: it is one that takes a key.
 abbrev pub Refuses : {W C S : Type 0} → Executor W C S → C → Type 0
 Refuses executor code =
-    --
     IsRefusedRead executor (beside_console code (Some (0 ∷ [])) (Some [])) (beside_console code (Some (0 ∷ [])) (Some []))
 
 module _ {W C S : Type 0} (executor : Executor W C S) (place : S → ℕ) (w : W) where
