@@ -11,6 +11,8 @@ mod functions;
 #[cfg(test)]
 mod lifted;
 #[cfg(test)]
+mod maps;
+#[cfg(test)]
 mod memory;
 #[cfg(test)]
 mod moves;

@@ -1,0 +1,14 @@
+pub mod StepKinds
+pub mod MachineKinds
+pub mod TextKinds
+pub mod StepLaws
+pub mod PendingLaws
+pub mod SideLaws
+pub mod BothSides
+pub mod CommonLaws
+pub mod FewLaws
+pub mod TallyLaws
+pub mod AgreedLaws
+pub mod ReportLaws
+pub mod RunLaws
+pub mod LineLaws

@@ -1,0 +1,18 @@
+use Rattle.std.proofs.Common.{◌≡◌, List, []}
+use Rattle.dcc_run.specs.End.{End as RunEnd}
+use Rattle.dcc_machine.specs.declared.cpu.Cpu.{Cpu}
+use Rattle.dcc_step.specs.Stepped.{machine}
+use Rattle.dcc_map.specs.Placed.{Placed}
+use Rattle.dcc_map.specs.Compared.{address_of}
+use Rattle.dcc_map.specs.Side.{Coming, machine_side}
+use Rattle.dcc_map.proofs.machine_side.MachineSide.finish.Given as goal
+
+abbrev pub invariant-steps : goal.invariant-steps
+invariant-steps l = record {
+  none : l.self.pending.items ≡ [];
+  comes : (cpu : Cpu) (coming : List Placed) (end : RunEnd) → Coming machine address_of cpu (machine_side l.initial.self) coming end
+      → (rest : List Placed) × Coming machine address_of cpu (machine_side l.self) rest end;
+}
+
+abbrev pub decreases-steps : goal.decreases-steps
+decreases-steps l = l.self.steps
