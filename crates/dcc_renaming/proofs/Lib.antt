@@ -1,0 +1,13 @@
+pub mod AlikeBodies
+pub mod AlikeNames
+pub mod AlikeRules
+pub mod AlikeRuns
+pub mod AlikeValues
+pub mod Apart
+pub mod CleanRuns
+pub mod CleanTexts
+pub mod Extended
+pub mod Free
+pub mod Members
+pub mod Uses
+pub mod Writes

@@ -1,0 +1,4 @@
+pub mod Alike
+pub mod Changes
+pub mod Faults
+pub mod Renamed
