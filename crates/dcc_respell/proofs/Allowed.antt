@@ -1,16 +1,16 @@
 -- A text whose expressions are written otherwise is writable as it was.
-use Rattle.std.proofs.Common.{◌≡◌, Bool, true, false, ◌&&◌, ◌||◌, not, List, [], ◌∷◌, ◌++◌, map, Option, Some, None, refl, sym, ap, ap₂, ◌∙◌}
-use Rattle.std.specs.Prelude.{option_map, nat_le}
+use Rattle.std.proofs.Common.{◌≡◌, ℕ, Bool, true, false, ◌&&◌, ◌||◌, not, List, [], ◌∷◌, ◌++◌, map, Option, Some, None, refl, sym, ap, ap₂, ◌∙◌}
+use Rattle.std.specs.Prelude.{option_map, nat_le, is_some}
 use Rattle.std.specs.List.{list_all, list_any, flat_map}
 use Rattle.std.proofs.lemmas.Bool.{and_parts, and_from}
 use Rattle.std.proofs.lemmas.List.Folds.{list_all-append}
 use Rattle.std.proofs.lemmas.Grind.{flat_map-append}
 use Rattle.dcc_c.specs.Token.{same_bytes}
 use Rattle.dcc_c.specs.Grammar.{Around, in_block, in_loop, in_switch, outermost, has_arm, is_name}
-use Rattle.dcc_c.specs.Tree.{Expr, Stmt, Assign, Call, If, While, DoWhile, Forever, Switch, Break, Continue, Goto, Label, Empty, Return, Lines, no_lines, line, Arms, no_arms, arm, Function, Tree}
+use Rattle.dcc_c.specs.Tree.{Word, Expr, Stmt, Assign, Call, If, While, DoWhile, Forever, Switch, Break, Continue, Goto, Label, Empty, Return, Lines, no_lines, line, Arms, no_arms, arm, Function, Tree}
 use Rattle.dcc_c.specs.Parts.{stmts_in, inner_stmts, arm_stmts, label_of}
 use Rattle.dcc_c.specs.Dos.{dos_names}
-use Rattle.dcc_c.specs.Rules.{declared_in, is_switch_value, differ, all_differ, names_of, known_names, own_variables, goto_of, allows_labels, signature_of, signature_in, cases_of, at_most_one, allows_stmt, shallow_stmt, IsAllowedFunction, AreAllowed, IsAllowed}
+use Rattle.dcc_c.specs.Rules.{declared_in, is_switch_value, differ, all_differ, names_of, known_names, own_variables, is_number, goto_of, allows_labels, signature_of, signature_in, cases_of, at_most_one, allows_stmt, shallow_stmt, IsAllowedFunction, AreAllowed, IsAllowed}
 use Rattle.dcc_c.specs.Rules as rules
 use Rattle.dcc_c.proofs.Writable.{is_writable_expr, is_writable_place, is_place_if, is_value_if, is_label, are_cases, has_no_case, is_small, is_writable_stmt, are_writable_lines, are_writable_arms, is_writable_default, is_writable_function, is_writable_param, is_writable_local, IsWritable}
 use Rattle.dcc_respell.specs.Writing.{Writing, stmt_by, lines_by, arms_by, function_by, text_by, MayStand}
@@ -80,7 +80,7 @@ module _ (w : Writing) where
   goto-same Empty = refl
   goto-same (Return e) = refl
 
-  labels-allowed : (lines : Lines) → allows_labels (lines_by w lines) ≡ allows_labels lines
+  pub labels-allowed : (lines : Lines) → allows_labels (lines_by w lines) ≡ allows_labels lines
   labels-allowed lines =
       ap₂ (λ labels gotos. all_differ labels && list_all (λ name. list_any (same_bytes name) labels) gotos) (lines-same label_of label-same lines) (lines-same goto_of goto-same lines)
 
@@ -92,7 +92,7 @@ module _ (w : Writing) where
         list_all-append q us vs ∙ and_from (list_all q us) (list_all q vs) (first parts.0) (second parts.1)
 
     mutual
-      all-lines : (lines : Lines) → list_all p (stmts_in lines) ≡ true → list_all q (stmts_in (lines_by w lines)) ≡ true
+      pub all-lines : (lines : Lines) → list_all p (stmts_in lines) ≡ true → list_all q (stmts_in (lines_by w lines)) ≡ true
       all-lines no_lines all = refl
       all-lines (line stmt at lines) all =
           let first = and_parts (p stmt) (list_all p (inner_stmts stmt ++ stmts_in lines)) all in
@@ -151,13 +151,39 @@ module _ (w : Writing) where
   label-told Empty = refl
   label-told (Return e) = refl
 
+-- What is written so may stand in the second function, however deep it is.
+pub record MayBeWritten (tree after : Tree) (f g : Function) (w : Writing) : Type 0 where
+  pub test : (e : Expr) → is_number (declared_in tree f) e ≡ true → is_number (declared_in after g) (w.test e) ≡ true
+  pub choice : (e : Expr) → is_switch_value (declared_in tree f) e ≡ true → is_switch_value (declared_in after g) (w.choice e) ≡ true
+  pub value : (place e : Expr) → allows_stmt tree f (Assign place e) ≡ true → allows_stmt after g (stmt_by w (Assign place e)) ≡ true
+  pub call : (place : Option Expr) (function : Word) (es : List Expr) (depth : ℕ) → allows_stmt tree f (Call place function es depth) ≡ true → allows_stmt after g (stmt_by w (Call place function es depth)) ≡ true
+  pub returned : (e : Expr) → allows_stmt tree f (Return (Some e)) ≡ true → allows_stmt after g (stmt_by w (Return (Some e))) ≡ true
+  pub test_written : (e : Expr) → is_writable_expr e ≡ true → is_writable_expr (w.test e) ≡ true
+  pub choice_written : (e : Expr) → is_writable_expr e ≡ true → is_writable_expr (w.choice e) ≡ true
+  pub place_written : (place : Expr) → is_writable_place place ≡ true → is_writable_place (w.place place) ≡ true
+  pub value_written : (place e : Expr) → is_writable_expr e ≡ true → is_writable_expr (w.value place e) ≡ true
+  pub arguments_written : (function : Word) (es : List Expr) → list_all is_writable_expr es ≡ true → list_all is_writable_expr (w.arguments function es) ≡ true
+  pub returned_written : (e : Expr) → is_writable_expr e ≡ true → is_writable_expr (w.returned e) ≡ true
+
+but-for-depth : (tree after : Tree) (f g : Function) (w : Writing) → MayStand tree after f g w → MayBeWritten tree after f g w
+but-for-depth tree after f g w may = record {
+  test = may.test;
+  choice = may.choice;
+  value = may.value;
+  call = may.call;
+  returned = may.returned;
+  test_written = may.test_written;
+  choice_written = may.choice_written;
+  place_written = may.place_written;
+  value_written = may.value_written;
+  arguments_written = may.arguments_written;
+  returned_written = may.returned_written;
+}
+
 -- One function.
 
-module _ (tree after : Tree) (f : Function) (w : Writing) (may : MayStand tree after f (record f { body = lines_by w f.body }) w) where
-  abbrev g : Function
-  g = record f { body = lines_by w f.body }
-
-  own-allowed : (stmt : Stmt) → allows_stmt tree f stmt ≡ true → allows_stmt after g (stmt_by w stmt) ≡ true
+module _ (tree after : Tree) (f g : Function) (w : Writing) (result : g.result ≡ f.result) (may : MayBeWritten tree after f g w) where
+  pub own-allowed : (stmt : Stmt) → allows_stmt tree f stmt ≡ true → allows_stmt after g (stmt_by w stmt) ≡ true
   own-allowed (Assign place e) is = may.value place e is
   own-allowed (Call place function es depth) is = may.call place function es depth is
   own-allowed (If e body otherwise) is = may.test e is
@@ -173,7 +199,7 @@ module _ (tree after : Tree) (f : Function) (w : Writing) (may : MayStand tree a
   own-allowed (Goto word) is = refl
   own-allowed (Label word) is = refl
   own-allowed Empty is = refl
-  own-allowed (Return None) is = is
+  own-allowed (Return None) is = ap (λ o. not (is_some o)) result ∙ is
   own-allowed (Return (Some e)) is = may.returned e is
 
   place-if : (place : Option Expr) → is_place_if place ≡ true → is_place_if (option_map w.place place) ≡ true
@@ -222,7 +248,7 @@ module _ (tree after : Tree) (f : Function) (w : Writing) (may : MayStand tree a
     stmt-writable around Empty is = refl
     stmt-writable around (Return e) is = value-if e is
 
-    lines-writable : (around : Around) (labelled : Bool) (lines : Lines) → are_writable_lines around labelled lines ≡ true → are_writable_lines around labelled (lines_by w lines) ≡ true
+    pub lines-writable : (around : Around) (labelled : Bool) (lines : Lines) → are_writable_lines around labelled lines ≡ true → are_writable_lines around labelled (lines_by w lines) ≡ true
     lines-writable around labelled no_lines is = is
     lines-writable around labelled (line stmt at lines) is =
         let one = and_parts (nat_le around.blocks 200) (is_writable_stmt around stmt && are_writable_lines around (is_label stmt) lines) is in
@@ -273,7 +299,7 @@ module _ (writing : Function → Writing) (tree : Tree) where
   one-function f may allowed = record {
     own_names = ap (λ names. all_differ (names_of (own_variables f) ++ names)) known-same ∙ allowed.own_names;
     labels = labels-allowed (writing f) f.body ∙ allowed.labels;
-    types = all-lines (writing f) (allows_stmt tree f) (allows_stmt after (function_by writing f)) (own-allowed tree after f (writing f) may) f.body allowed.types;
+    types = all-lines (writing f) (allows_stmt tree f) (allows_stmt after (function_by writing f)) (own-allowed tree after f (function_by writing f) (writing f) refl (but-for-depth tree after f (function_by writing f) (writing f) may)) f.body allowed.types;
     arrays = allowed.arrays;
     depth = all-lines (writing f) (shallow_stmt 200) (shallow_stmt 200) may.shallow f.body allowed.depth;
   }
@@ -292,7 +318,7 @@ module _ (writing : Function → Writing) (tree : Tree) where
       and_from (is_writable_function (function_by writing f)) (list_all is_writable_function (map (function_by writing) functions))
       (and_from (is_name f.name) (list_all is_writable_param f.params && (list_all is_writable_local f.locals && are_writable_lines outermost false (lines_by (writing f) f.body))) one.0
       (and_from (list_all is_writable_param f.params) (list_all is_writable_local f.locals && are_writable_lines outermost false (lines_by (writing f) f.body)) two.0
-      (and_from (list_all is_writable_local f.locals) (are_writable_lines outermost false (lines_by (writing f) f.body)) three.0 (lines-writable tree after f (writing f) may.0 outermost false f.body three.1))))
+      (and_from (list_all is_writable_local f.locals) (are_writable_lines outermost false (lines_by (writing f) f.body)) three.0 (lines-writable tree after f (function_by writing f) (writing f) refl (but-for-depth tree after f (function_by writing f) (writing f) may.0) outermost false f.body three.1))))
       (all-writable functions may.1 first.1)
 
   -- a text stays writable

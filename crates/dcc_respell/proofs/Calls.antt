@@ -13,9 +13,11 @@ use Rattle.dcc_c.specs.Tree.{Word, Function, Tree}
 use Rattle.dcc_c.specs.Dos.{Dos, Putc, Getche, Getch, Puts, Leave, string_at}
 use Rattle.dcc_c.specs.Placement.{below, params_of_call, locals_of_call}
 use Rattle.dcc_c.specs.Value.{Value, value, number, converted, Outcome, Gives, Divides, Undefined, Binding, after_assignment, Target, ToVariable, ToMemory}
-use Rattle.dcc_c.specs.Run.{Continuation, Frame, Waiting, State, with_end, goes_on, on, takes, result_step, back_step, is_start, close_step, return_step, give_step, with_events, key_step, dos_step, enter_step, frame_of, function_in, jump_step, param_bindings, local_bindings, with_arguments}
-use Rattle.dcc_respell.specs.Respelled.{Both, AllBits, BindingAlike, TargetAlike, IfTargetsAlike, TakesAlike, FunctionAlike}
+use Rattle.dcc_c.specs.Run.{Continuation, Frame, Waiting, State, with_end, goes_on, on, takes, result_step, back_step, is_start, close_step, return_step, give_step, with_events, key_step, dos_step, enter_step, frame_of, function_in, jump_step, param_types, param_bindings, local_bindings, with_arguments}
+use Rattle.dcc_progress.proofs.Frames.{own_declared}
+use Rattle.dcc_respell.specs.Respelled.{Both, AllBits, IsKept, BindingAlike, TargetAlike, IfTargetsAlike, TakesAlike, FunctionAlike}
 use Rattle.dcc_respell.proofs.Rests.{RestAlike, goes, ends, IfRests}
+use Rattle.dcc_respell.proofs.Kept.{IsWithin, kept-assigned, frame-kept}
 use Rattle.dcc_respell.proofs.Variables.{room-bits, found-alike, assigned-alike, params-there, locals-there, params-alike, locals-alike, both-alike, arguments-written}
 
 module _ (tree after : Tree) where
@@ -23,6 +25,7 @@ module _ (tree after : Tree) where
   pub record FrameAlike (frame other : Frame) : Type 0 where
     pub function : FunctionAlike tree after frame.function other.function
     pub base : other.base ≡ frame.base
+    pub kept : AllZip IsKept (own_declared frame.function) frame.variables
     pub variables : AllZip BindingAlike frame.variables other.variables
 
   pub record WaitsAlike (w x : Waiting) : Type 0 where
@@ -84,6 +87,7 @@ module _ (tree after : Tree) where
     frame = record {
       function = is.frame.function;
       base = is.frame.base;
+      kept = kept-assigned (own_declared s.frame.function) s.frame.variables word v is.frame.kept;
       variables = subst (λ n. AllZip BindingAlike (after_assignment s.frame.variables word v) (after_assignment t.frame.variables n w)) (sym same) (assigned-alike s.frame.variables t.frame.variables word v w is.frame.variables bits);
     };
     rest = is.rest;
@@ -113,7 +117,7 @@ module _ (tree after : Tree) where
   takes-alike (ToMemory type at) (ToVariable other) v w s t is same bits = absurd same
 
   -- one value for both
-  same-takes : (bs cs : List Binding) (target to : Target) (v : Value) → AllZip BindingAlike bs cs → TargetAlike target to → TakesAlike bs cs target to v v
+  pub same-takes : (bs cs : List Binding) (target to : Target) (v : Value) → AllZip BindingAlike bs cs → TargetAlike target to → TakesAlike bs cs target to v v
   same-takes bs cs (ToVariable word) (ToVariable other) v are same = λ b c here there. room-bits b.type c.type v (found-alike bs cs word b c are here there).room
   same-takes bs cs (ToMemory type at) (ToMemory other there) v are same = room-bits type other v same.1
   same-takes bs cs (ToVariable word) (ToMemory other there) v are same = absurd same
@@ -250,14 +254,15 @@ module _ (tree after : Tree) where
       (subst (λ ps. AllZip BindingAlike (param_bindings f.params (params_of_call f base) xs) (param_bindings g.params ps ys)) (sym (params-placed f g base is)) (params-alike f.params g.params (params_of_call f base) xs ys is.params same))
       (subst (λ ps. AllZip BindingAlike (local_bindings fill f.locals (locals_of_call f base)) (local_bindings fill g.locals ps)) (sym (locals-placed f g base is)) (locals-alike fill f.locals g.locals (locals_of_call f base) is.locals))
 
-  pub enter-alike : (f g : Function) (depth : ℕ) (target to : Option Target) (xs ys : List Value) (s t : State) → StateAlike s t → FunctionAlike tree after f g → IfTargetsAlike target to → AllBits xs ys →
+  pub enter-alike : (f g : Function) (depth : ℕ) (target to : Option Target) (xs ys : List Value) (s t : State) → StateAlike s t → FunctionAlike tree after f g → IfTargetsAlike target to → AllBits xs ys → AllZip IsWithin (param_types f) xs →
       AfterAlike (enter_step f depth target xs s) (enter_step g depth to ys t)
-  enter-alike f g depth target to xs ys s t is function same bits =
+  enter-alike f g depth target to xs ys s t is function same bits within =
       let base : below t.frame.base depth ≡ below s.frame.base depth = ap (λ b. below b depth) is.frame.base in
       alike (record {
         frame = record {
           function = function;
           base = base;
+          kept = frame-kept f (below s.frame.base depth) s.fill xs within;
           variables = subst (λ b. AllZip BindingAlike (frame_of f (below s.frame.base depth) s.fill xs).variables (frame_of g b t.fill ys).variables) (sym base)
               (subst (λ k. AllZip BindingAlike (frame_of f (below s.frame.base depth) s.fill xs).variables (frame_of g (below s.frame.base depth) k ys).variables) (sym is.fill) (frames-begin f g (below s.frame.base depth) s.fill xs ys function bits));
         };

@@ -1,5 +1,6 @@
 pub mod Rests
 pub mod Variables
+pub mod Kept
 pub mod Calls
 pub mod Steps
 pub mod RunLaws

@@ -1,11 +1,11 @@
 -- A text runs as the one does of which it is another spelling.
-use Rattle.std.proofs.Common.{◌≡◌, ◌≢◌, ℕ, zero, suc, true, List, [], ◌∷◌, refl, sym, ap, ◌∙◌, subst}
+use Rattle.std.proofs.Common.{◌≡◌, ◌≢◌, ℕ, zero, suc, true, List, [], ◌∷◌, map, refl, sym, ap, ◌∙◌, subst}
 use Rattle.std.specs.Prelude.{codes, if◌then◌else◌}
 use Rattle.std.specs.List.{AllZip}
 use Rattle.dcc_run.specs.End.{Running, Exit, Divide, Stuck, is_over}
 use Rattle.dcc_run.specs.System.{after as after_steps}
 use Rattle.dcc_c.specs.Token.{same_bytes}
-use Rattle.dcc_c.specs.Tree.{Function, Tree}
+use Rattle.dcc_c.specs.Tree.{Variable, Function, Tree}
 use Rattle.dcc_c.specs.Placement.{first_base}
 use Rattle.dcc_c.specs.Run.{State, is_start, step_at, step, first_state, frame_of}
 use Rattle.dcc_c.proofs.NameLaws.{same_bytes-refl}
@@ -16,6 +16,7 @@ use Rattle.dcc_progress.proofs.StuckLaws.{sound-step, first-sound}
 use Rattle.dcc_respell.specs.Respelled.{FunctionAlike, IsRespelled, BindingAlike}
 use Rattle.dcc_respell.specs.Laws.{RespelledTextsRunAlike}
 use Rattle.dcc_respell.proofs.Rests.{goes, ends}
+use Rattle.dcc_respell.proofs.Kept.{IsWithin, frame-kept}
 use Rattle.dcc_respell.proofs.Calls.{StateAlike, AfterAlike, alike, over, stuck, frames-begin}
 use Rattle.dcc_respell.proofs.Steps.{step-alike}
 
@@ -63,12 +64,13 @@ first-alike tree after start first fs gs are one two =
     let both : AllZip (FunctionAlike tree after) (start ∷ fs) (first ∷ gs) = subst (λ xs. AllZip (FunctionAlike tree after) xs (first ∷ gs)) one (subst (AllZip (FunctionAlike tree after) tree.functions) two are) in
     both.0
 
-first-states : (tree after : Tree) (start first : Function) (fill : ℕ) (input : List ℕ) → IsRespelled tree after → FunctionAlike tree after start first →
+first-states : (tree after : Tree) (start first : Function) (fill : ℕ) (input : List ℕ) → IsRespelled tree after → FunctionAlike tree after start first → start.params ≡ [] →
     StateAlike tree after (first_state tree start fill input) (first_state after first fill input)
-first-states tree after start first fill input is function = record {
+first-states tree after start first fill input is function none = record {
   frame = record {
     function = function;
     base = ap first_base is.hi;
+    kept = frame-kept start (first_base tree.hi) fill [] (subst (λ (vs : List Variable). AllZip IsWithin (map (λ v. v.type) vs) []) (sym none) tt);
     variables = subst (λ b. AllZip BindingAlike (frame_of start (first_base tree.hi) fill []).variables (frame_of first b fill []).variables) (sym (ap first_base is.hi)) (frames-begin tree after start first (first_base tree.hi) fill [] [] function tt);
   };
   rest = goes function.body ends;
@@ -93,7 +95,7 @@ respelled-alike text written tree after is also same fill input unstuck n =
     let also_named : is_start other.start ≡ true = ap (λ n. same_bytes n (codes "start")) other.name ∙ same_bytes-refl (codes "start") in
     let function = first-alike tree after rules.start other.start rules.others other.others same.functions rules.first other.first in
     let both = runs-alike tree after known also_known same.functions n (first_state tree rules.start fill input) (first_state after other.start fill input)
-    (first-states tree after rules.start other.start fill input same function)
+    (first-states tree after rules.start other.start fill input same function rules.no_params)
     (first-sound tree rules.start fill input (known rules.start own) rules.no_params named)
     (first-sound after other.start fill input (also_known other.start its) other.no_params also_named)
     unstuck

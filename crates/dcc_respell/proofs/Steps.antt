@@ -15,6 +15,7 @@ use Rattle.dcc_respell.specs.Respelled.{Both, AllBits, TargetAlike, IfTargetsAli
 use Rattle.dcc_respell.specs.Respelled.{assigns, calls, repeats, tests_after, turns_round, chooses, breaks, continues, jumps, is_label, is_empty, returns, gives, no_more, one_more}
 use Rattle.dcc_respell.specs.Respelled as spelled
 use Rattle.dcc_respell.proofs.Rests.{RestAlike, ends, goes, tests_again, turns_again, ends_choice, break-alike, continue-alike, label-alike, arm-alike, default-alike}
+use Rattle.dcc_respell.proofs.Kept.{arguments-within}
 use Rattle.dcc_respell.proofs.Calls.{StateAlike, AfterAlike, alike, stuck, on-alike, goes-alike, jump-alike, takes-alike, close-alike, return-alike, give-alike, dos-alike, enter-alike, IfFunctions, functions-found}
 
 module _ (tree after : Tree) where
@@ -26,7 +27,7 @@ module _ (tree after : Tree) where
     g = t.frame.function
 
     calls-alike : CallsAlike tree after f g s.frame t.frame
-    calls-alike = record { function = refl; other_function = refl; is = sound; other_is = other_sound; variables = is.frame.variables }
+    calls-alike = record { function = refl; other_function = refl; is = sound; other_is = other_sound; kept = is.frame.kept; variables = is.frame.variables }
 
     in-scope : (P : Frame → Frame → Scope → Scope → Type 0) → InAllScopes tree after f g P → P s.frame t.frame (scope_of tree s) (scope_of after t)
     in-scope P holds =
@@ -80,7 +81,7 @@ module _ (tree after : Tree) where
             let two : signature_in after word ≡ Some (signature_of b) = ap (λ d. elim d [ Some own ↦ Some (dos_signature own) | None ↦ option_map signature_of (function_in after.functions word) ]) found ∙ ap (option_map signature_of) also in
             on-alike tree after AllBits _ _ at there s t _ _ is.events
             (in-scope (λ frame other scope below. Both AllBits (arguments_of scope (param_types a) arguments) (arguments_of below (param_types b) hs)) (known (signature_of a) (signature_of b) one two))
-            (λ vs ws h k bits. enter-alike tree after a b depth target to vs ws s t is both same bits)
+            (λ vs ws h k bits. enter-alike tree after a b depth target to vs ws s t is both same bits (arguments-within (scope_of tree s) (param_types a) arguments vs h))
         own-called None (Some b) found here also both = absurd both
         own-called (Some a) None found here also both = absurd both
 

@@ -84,7 +84,7 @@ module _ (tree after : Tree) (f g : Function) (w : Writing) (means : MeansAlike 
   first-takes stmt at stands = takes-stmt stands
 
   mutual
-    lines-alike : (lines : Lines) (depth at own there : ℕ) → Own (numbered_lines depth at lines) → Allowed (stmts_in (numbered_lines depth at lines)) →
+    pub lines-alike : (lines : Lines) (depth at own there : ℕ) → Own (numbered_lines depth at lines) → Allowed (stmts_in (numbered_lines depth at lines)) →
         LinesAlike tree after f g (numbered_lines depth at lines) (numbered_lines own there (lines_by w lines))
     lines-alike no_lines depth at own there stands allowed = no_more
     lines-alike (line stmt was lines) depth at own there stands allowed =
@@ -194,7 +194,7 @@ numbered-spares : (word : Word) (depth at : ℕ) (stmt : Stmt) → spares word (
 numbered-spares word depth at stmt = ap (λ es. not (list_any (is_address_of word) (flat_map parts_of es))) (exprs_same depth at stmt)
 
 -- a body that is written anew, and numbered, takes the addresses that the numbered one takes
-addresses-kept : (w : Writing) → KeepsAddresses w → (lines : Lines) (depth at own there : ℕ) (word : Word) →
+pub addresses-kept : (w : Writing) → KeepsAddresses w → (lines : Lines) (depth at own there : ℕ) (word : Word) →
     takes_address (numbered_lines own there (lines_by w lines)) word ≡ takes_address (numbered_lines depth at lines) word
 addresses-kept w keeps lines depth at own there word =
     taken-by-statements (numbered_lines own there (lines_by w lines)) word

@@ -1,18 +1,19 @@
 -- A text that is another one with its expressions and its variables' types written otherwise, statement by statement.
-use Rattle.std.specs.Prelude.{◌≡◌, ℕ, List, ◌++◌, map, Option, Some, None}
+use Rattle.std.specs.Prelude.{◌≡◌, ℕ, ◌<◌, ◌^◌, false, List, ◌++◌, map, Option, Some, None}
 use Rattle.std.specs.List.{AllZip}
 use Rattle.dcc_c.specs.declared.syntax.Base.TheVariants.{Uint}
 use Rattle.dcc_c.specs.declared.syntax.CType.{CType}
-use Rattle.dcc_c.specs.Types.{plain, size_of}
+use Rattle.dcc_c.specs.Types.{plain, size_of, bits_of, number_of_type}
 use Rattle.dcc_c.specs.Tree.{Word, Expr, Stmt, Assign, Call, If, While, DoWhile, Forever, Switch, Break, Continue, Goto}
 use Rattle.dcc_c.specs.Tree.{Label, Empty, Return, Lines, no_lines, line, Arms, no_arms, arm, Variable, Function, Tree}
-use Rattle.dcc_c.specs.Value.{Value, is_zero, converted, Outcome, Gives, Divides, Undefined, Binding, variable_in, Scope}
-use Rattle.dcc_c.specs.Value.{value_of, Target, ToVariable, ToMemory, target_of}
+use Rattle.dcc_c.specs.Typing.{Declared}
+use Rattle.dcc_c.specs.Value.{Value, is_zero, converted, Outcome, Gives, Divides, Undefined, is_placed, Unplaced, Binding}
+use Rattle.dcc_c.specs.Value.{variable_in, Scope, value_of, Target, ToVariable, ToMemory, target_of}
 use Rattle.dcc_c.specs.Dos.{Signature}
 use Rattle.dcc_c.specs.Placement.{takes_address}
 use Rattle.dcc_c.specs.Rules.{signature_in}
 use Rattle.dcc_c.specs.Run.{Frame, global_binding, arguments_of, result_target, first_memory}
-use Rattle.dcc_progress.proofs.Frames.{IsFrame}
+use Rattle.dcc_progress.proofs.Frames.{own_declared, IsFrame}
 
 -- Evaluations.
 
@@ -70,12 +71,18 @@ TakesAlike variables others (ToMemory type at) (ToVariable word) v w = ⊥
 
 -- Calls.
 
+-- A variable that is declared without a place is kept by itself, and what is kept so has the bits of its type.
+pub record IsKept (d : Declared) (b : Binding) : Type 0 where
+  pub unplaced : d.is_placed ≡ false → is_placed b.storage ≡ false
+  pub within : (bits : ℕ) → b.storage ≡ Unplaced bits → bits < 2 ^ bits_of (number_of_type b.type)
+
 -- Calls of the two functions of the two texts whose variables hold the same.
 pub record CallsAlike (tree after : Tree) (f g : Function) (frame other : Frame) : Type 0 where
   pub function : frame.function ≡ f
   pub other_function : other.function ≡ g
   pub is : IsFrame tree frame
   pub other_is : IsFrame after other
+  pub kept : AllZip IsKept (own_declared f) frame.variables
   pub variables : AllZip BindingAlike frame.variables other.variables
 
 abbrev pub scope_in : Tree → Frame → List ℕ → Scope

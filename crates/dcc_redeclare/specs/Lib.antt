@@ -1,0 +1,2 @@
+pub mod Redeclared
+pub mod Laws
