@@ -1,17 +1,19 @@
 -- A text may declare the global variables for a program's data segment.
-use Rattle.std.proofs.Common.{◌≡◌, ℕ, ◌<◌, List, ap, ◌∙◌}
+use Rattle.std.proofs.Common.{◌≡◌, ℕ, ◌<◌, List, [], ◌∷◌, refl, sym, ap, ◌∙◌, subst}
 use Rattle.std.specs.Prelude.{All}
+use Rattle.std.specs.List.{AllZip}
 use Rattle.dcc_num.specs.declared.Width.{Width}
 use Rattle.dcc_machine.specs.declared.image.Image.{Image}
 use Rattle.dcc_machine.specs.declared.instr.Ea.{Ea}
 use Rattle.dcc_prog.specs.declared.frame.Program.{Program as Analysed}
 use Rattle.dcc_ir.specs.Tree as inner
+use Rattle.dcc_c.specs.Tree.{Global}
 use Rattle.dcc_globals.specs.Globals.{globals_of}
 use Rattle.dcc_globals.specs.Laws.{data_in, GlobalsAreAllowed, GlobalsHaveNames, GlobalsAreWritable, FirstMemoriesAreEqual}
 use Rattle.dcc_globals.specs.Pieces.{Data, operands_of}
 use Rattle.dcc_lift.specs.Lifted.{IsLifted}
 use Rattle.dcc_tidy.specs.Tidied.{IsTidiedGraph}
-use Rattle.dcc_pipe.specs.GlobalData.{AreGlobalsFor, data_of, globals_in}
+use Rattle.dcc_pipe.specs.GlobalData.{AreGlobalsFor, IsGlobalAs, data_of, globals_in}
 use Rattle.dcc_pipe.specs.Prepared.{IsPrepared}
 use Rattle.dcc_pipe.specs.Simplified.{HasEachChanged}
 
@@ -45,3 +47,11 @@ pub globals-are : (ids : List ℕ) (image : Image) (program : Analysed) (p q r :
     → globals_in program.procs.items r ≡ globals_of (data_of image program)
 globals-are ids image program p q r lifted is tidy =
     ap globals_of (segment-is ids image program p q r lifted is tidy)
+
+-- global variables are those that they are
+all-as : (gs : List Global) → AllZip IsGlobalAs gs gs
+all-as [] = tt
+all-as (g ∷ gs) = (record { name = refl; at = refl; len = refl; size = refl; init = refl }, all-as gs)
+
+pub are-as : (gs hs : List Global) → hs ≡ gs → AllZip IsGlobalAs gs hs
+are-as gs hs same = subst (AllZip IsGlobalAs gs) (sym same) (all-as gs)

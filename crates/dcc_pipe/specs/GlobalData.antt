@@ -1,6 +1,6 @@
 -- The global variables of a program's text.
 use Rattle.std.specs.Prelude.{◌≡◌, ℕ, true, List}
-use Rattle.std.specs.List.{list_all}
+use Rattle.std.specs.List.{AllZip, list_all}
 use Rattle.dcc_machine.specs.declared.cpu.Cpu.{Cpu}
 use Rattle.dcc_machine.specs.declared.image.Image.{Image}
 use Rattle.dcc_prog.specs.declared.frame.Program.{Program as Analysed}
@@ -11,6 +11,7 @@ use Rattle.dcc_ir.specs.Run as inner_run
 use Rattle.dcc_ir.specs.Tree as inner
 use Rattle.dcc_c.specs.Run as text_run
 use Rattle.dcc_c.specs.Tree.{Global, Tree}
+use Rattle.dcc_c.specs.Types.{size_of}
 use Rattle.dcc_c.proofs.Writable.{is_writable_global}
 use Rattle.dcc_variables.specs.Globals.{HaveNames}
 use Rattle.dcc_globals.specs.Globals.{globals_of}
@@ -41,9 +42,17 @@ data_of image program = record {
   operands = operands_of program.procs.items;
 }
 
+-- the second global variable has the first one's name, place, size and initial values, whatever sign its type has
+pub record IsGlobalAs (g h : Global) : Type 0 where
+  pub name : h.name ≡ g.name
+  pub at : h.at ≡ g.at
+  pub len : h.len ≡ g.len
+  pub size : size_of h.type ≡ size_of g.type
+  pub init : h.init ≡ g.init
+
 -- the tree's global variables are just those for the data segment of the program that is found in the image on the
--- processor
+-- processor, but for the signs of their types
 pub record HasGlobals (cpu : Cpu) (image : Image) (tree : Tree) : Type 0 where
   pub program : Analysed
   pub is_program : IsProgramOf cpu image program
-  pub globals : tree.globals ≡ globals_of (data_of image program)
+  pub globals : AllZip IsGlobalAs (globals_of (data_of image program)) tree.globals

@@ -7,6 +7,7 @@ use Rattle.dcc_c.specs.Views.{tree_of}
 use Rattle.dcc_c.specs.Written.{written_form}
 use Rattle.dcc_pipe.specs.Agreement.{IsTextOf}
 use Rattle.dcc_pipe.specs.GlobalData.{HasGlobals}
+use Rattle.dcc_pipe.proofs.GlobalLaws.{are-as}
 use Rattle.dcc_shape.specs.Shape.{HaveShape}
 use Rattle.dcc_pipe.specs.Shaped.{asked_of, HasShape}
 use Rattle.dcc_pipe.specs.TypedFrames.{HasTypedFrames}
@@ -63,7 +64,7 @@ returns-in-Ok-clause-globals g c =
     let has : HasGlobals c.args.cpu c.args.image.now (tree_of c.in-Ok.unit) = record {
       program = c.in_ok-program.program;
       is_program = c.in_ok-program.ensures.program;
-      globals = c.in-Ok.ensures.globals;
+      globals = are-as _ _ c.in-Ok.ensures.globals;
     } in
     IfOk-weaker c.shaped.result _ _
     (λ after is. subst (λ unit. HasGlobals c.args.cpu c.args.image.now (tree_of unit)) (sym is.0) has)
