@@ -1,6 +1,7 @@
-//! Fetching what the words name: the image of an executable, the unit of a text, or the bytes of a listing.
+//! Fetching what the words name: the image of an executable, the unit of a text, the bytes of a listing, or two files
+//! before anything is checked in them.
 
-ghost use Rattle.std.specs.Prelude.{IfOk, IfErr};
+ghost use Rattle.std.specs.Prelude.{◌≡◌, IfOk, IfErr};
 ghost use Rattle.dcc_c.specs.Views.{tree_of};
 ghost use Rattle.dcc_machine.specs.MzImage.{IsImageOf, IsLoaded};
 ghost use Rattle.dcc_top.specs.Jobs.{greatest_file, greatest_text};
@@ -8,17 +9,18 @@ ghost use Rattle.dcc_asm.specs.Fault.{IsAssembled};
 ghost use Rattle.dcc_top.specs.Answer.{HasNoImage, HasNoUnit, IsReadAs, IsUnassembled, OfFile};
 ghost use Rattle.dcc_top.specs.Call.{shelf_change};
 ghost use Rattle.dcc_top.specs.Causes.{AsksOnce};
+ghost use Rattle.dcc_top.specs.Fetched.{FetchesOne, FetchesTwo};
 
 use crate::reply::Reply;
 use dcc_asm::{ListKind, assemble};
 use dcc_c::Unit;
-use dcc_io::{Fetched, Shelf};
+use dcc_io::{Fetched, Shelf, ShelfFault};
 use dcc_machine::Image;
 use dcc_mz::{MzFault, load};
 use dcc_parse::{ParseKind, parse};
 use std::alloc::Global;
 
-// The greatest length of an executable that is fetched, in bytes.
+// The greatest length of an executable or of a file of signatures that is fetched, in bytes.
 const GREATEST_FILE: usize = 262_144;
 
 // The greatest length of a text or a listing that is fetched, in bytes.
@@ -84,5 +86,53 @@ pub(crate) fn fetch_assembled<H: Shelf>(
             line: 0,
             kind: ListKind::Length,
         }),
+    }
+}
+
+/// What was fetched of a file.
+#[derive(Drop)]
+pub struct FetchedFile {
+    /// The bytes of the file, or its first ones.
+    pub bytes: Vec<u8>,
+    /// Which of these they are.
+    pub part: Fetched,
+}
+
+// What the shelf gives of the file of this name.
+fn fetch_file<H: Shelf>(
+    alloc: Global,
+    name: &str,
+    shelf: &mut H,
+) -> Result<FetchedFile, ShelfFault>
+    ensures files { H.files shelf.new ≡ H.files shelf.old }
+    ensures fetches { FetchesOne name.now
+        (shelf_change H.files H.asked H.absences H.faults shelf.old shelf.new) result }
+{
+    let mut bytes = Vec::new(alloc);
+    let part = shelf.fetch(alloc, name, GREATEST_FILE, &mut bytes)?;
+    Ok(FetchedFile { bytes, part })
+}
+
+/// What the shelf gives of two files. It is asked for the second one too where it has not the first. The error is the
+/// answer that says why one of them could not be had, the first one where neither could; or that memory ran out.
+pub(crate) fn fetch_two<H: Shelf>(
+    alloc: Global,
+    name: &str,
+    other: &str,
+    shelf: &mut H,
+) -> Result<(FetchedFile, FetchedFile), Reply>
+    ensures { FetchesTwo name.now other.now
+        (shelf_change H.files H.asked H.absences H.faults shelf.old shelf.new) result }
+{
+    match fetch_file(alloc, name, shelf) {
+        Ok(first) => match fetch_file(alloc, other, shelf) {
+            Ok(second) => Ok((first, second)),
+            Err(fault) => Err(Reply::from(fault)),
+        },
+        Err(ShelfFault::Memory) => Err(Reply::Memory),
+        Err(fault) => match fetch_file(alloc, other, shelf) {
+            Err(ShelfFault::Memory) => Err(Reply::Memory),
+            _ => Err(Reply::from(fault)),
+        },
     }
 }
