@@ -121,7 +121,7 @@ fn commands_have_a_job(rt: HostRuntime) -> Result<(), Fail> {
 }
 
 // Words that are no command.
-static OTHER_WORDS: [&str; 86] = [
+static OTHER_WORDS: [&str; 91] = [
     "",
     "help",
     "--help",
@@ -192,6 +192,11 @@ static OTHER_WORDS: [&str; 86] = [
     "asm F --steps 1",
     "asm F --fill=1",
     "asm F --cpu 186",
+    "sigs",
+    "sigs F",
+    "sigs F S T",
+    "sigs F S --steps 1",
+    "sigs F S --cpu 286",
     "trial",
     "trial 7",
     "trial 7 1",
