@@ -1,14 +1,14 @@
 -- What was fetched of files, before anything is checked in them.
-use Rattle.std.specs.Prelude.{◌≡◌, ◌≤◌, ◌<◌, ℕ, List, [], ◌∷◌, ◌++◌, length, Result, IfOk, IfErr, IsErrOf, MatchResult, Err}
+use Rattle.std.specs.Prelude.{◌≡◌, ◌⊎◌, ◌≤◌, ◌<◌, ℕ, List, [], ◌∷◌, ◌++◌, length}
+use Rattle.std.specs.Prelude.{Result, Ok, Err, IfOk, IfErr, IsErrOf}
 use Rattle.std.specs.List.{Contains}
+use Rattle.std.specs.declared.alloc.AllocError.{AllocError}
 use Rattle.dcc_io.specs.declared.outside.Fetched.{Fetched}
 use Rattle.dcc_io.specs.declared.outside.Fetched.TheVariants.{Whole, Longer}
-use Rattle.dcc_io.specs.declared.outside.ShelfFault.{ShelfFault}
-use Rattle.dcc_io.specs.declared.outside.ShelfFault.TheVariants.{Absent, Failed}
-use Rattle.dcc_io.specs.Fetch.{Records}
 use Rattle.dcc_top.specs.declared.fetch.FetchedFile.{FetchedFile}
 use Rattle.dcc_top.specs.declared.reply.Reply.{Reply}
-use Rattle.dcc_top.specs.Answer.{Files, OfFile, HasNoFile, shelf_reply}
+use Rattle.dcc_top.specs.declared.reply.Reply.TheVariants.{NoFile, FileFault}
+use Rattle.dcc_top.specs.Answer.{Files, OfFile, HasNoFile}
 use Rattle.dcc_top.specs.Call.{ShelfChange, Rises}
 use Rattle.dcc_top.specs.Causes.{AsksTwo}
 use Rattle.dcc_top.specs.Jobs.{greatest_file}
@@ -22,17 +22,23 @@ IsPartOf Longer bytes file = greatest_file < length file
 abbrev pub Gives : FetchedFile → List ℕ → Type 0
 Gives fetched file = IsPartOf fetched.part fetched.bytes.items file
 
--- One file was asked for: what was fetched of it, or why nothing was; and what was asked. Counts never fall, and an error
--- comes only where its count rose.
-pub record FetchesOne (name : List ℕ) (shelf : ShelfChange) (result : Result FetchedFile ShelfFault) : Type 0 where
-  pub gives : IfOk result (λ fetched. OfFile shelf.files name (Gives fetched))
-  pub lacks : IfErr result (λ fault. HasNoFile shelf.files name (shelf_reply fault))
-  pub asked : MatchResult result (λ _. shelf.asked.after ≡ shelf.asked.before ++ (name, greatest_file) ∷ [])
-      (λ fault. Records shelf.asked.before shelf.asked.after (name, greatest_file) (Err fault))
+-- this was fetched of the file of the name, or the answer says why it could not be had
+abbrev pub GivesOrLacks : Files → List ℕ → Result FetchedFile Reply → Type 0
+GivesOrLacks told name (Ok fetched) = OfFile told name (Gives fetched)
+GivesOrLacks told name (Err reply) = HasNoFile told name reply
+
+-- One file was asked for, and perhaps not where memory ran out, which the error is: what was fetched of it, or why it
+-- could not be had. Counts never fall, and no file and a fault of the shelf come where their counts rose.
+pub record FetchesOne (name : List ℕ) (shelf : ShelfChange) (result : Result (Result FetchedFile Reply) AllocError) :
+    Type 0 where
+  pub answer : IfOk result (GivesOrLacks shelf.files name)
+  pub asked : IfOk result (λ _. shelf.asked.after ≡ shelf.asked.before ++ (name, greatest_file) ∷ [])
+  pub asked_prefix : (shelf.asked.after ≡ shelf.asked.before ++ (name, greatest_file) ∷ [])
+      ⊎ (shelf.asked.after ≡ shelf.asked.before)
   pub absences : shelf.absences.before ≤ shelf.absences.after
-  pub absent : IsErrOf result Absent → Rises shelf.absences
+  pub absent : IfOk result (λ answer. IsErrOf answer NoFile → Rises shelf.absences)
   pub faults : shelf.faults.before ≤ shelf.faults.after
-  pub failed : IsErrOf result Failed → Rises shelf.faults
+  pub failed : IfOk result (λ answer. IsErrOf answer FileFault → Rises shelf.faults)
 
 -- what was fetched of two files
 abbrev pub GivesTwo : Files → List ℕ → List ℕ → FetchedFile → FetchedFile → Type 0

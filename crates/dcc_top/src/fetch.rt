@@ -18,7 +18,7 @@ use dcc_io::{Fetched, Shelf, ShelfFault};
 use dcc_machine::Image;
 use dcc_mz::{MzFault, load};
 use dcc_parse::{ParseKind, parse};
-use std::alloc::Global;
+use std::alloc::{AllocError, Global};
 
 // The greatest length of an executable or of a file of signatures that is fetched, in bytes.
 const GREATEST_FILE: usize = 262_144;
@@ -98,19 +98,24 @@ pub struct FetchedFile {
     pub part: Fetched,
 }
 
-// What the shelf gives of the file of this name.
+// What the shelf gives of the file of this name, or the answer that says why it could not be had. The error is want of
+// memory.
 fn fetch_file<H: Shelf>(
     alloc: Global,
     name: &str,
     shelf: &mut H,
-) -> Result<FetchedFile, ShelfFault>
+) -> Result<Result<FetchedFile, Reply>, AllocError>
     ensures files { H.files shelf.new ≡ H.files shelf.old }
     ensures fetches { FetchesOne name.now
         (shelf_change H.files H.asked H.absences H.faults shelf.old shelf.new) result }
 {
     let mut bytes = Vec::new(alloc);
-    let part = shelf.fetch(alloc, name, GREATEST_FILE, &mut bytes)?;
-    Ok(FetchedFile { bytes, part })
+    match shelf.fetch(alloc, name, GREATEST_FILE, &mut bytes) {
+        Ok(part) => Ok(Ok(FetchedFile { bytes, part })),
+        Err(ShelfFault::Absent) => Ok(Err(Reply::NoFile)),
+        Err(ShelfFault::Failed) => Ok(Err(Reply::FileFault)),
+        Err(ShelfFault::Memory) => Err(AllocError),
+    }
 }
 
 /// What the shelf gives of two files. It is asked for the second one too where it has not the first. The error is the
@@ -124,15 +129,13 @@ pub(crate) fn fetch_two<H: Shelf>(
     ensures { FetchesTwo name.now other.now
         (shelf_change H.files H.asked H.absences H.faults shelf.old shelf.new) result }
 {
-    match fetch_file(alloc, name, shelf) {
-        Ok(first) => match fetch_file(alloc, other, shelf) {
-            Ok(second) => Ok((first, second)),
-            Err(fault) => Err(Reply::from(fault)),
-        },
-        Err(ShelfFault::Memory) => Err(Reply::Memory),
-        Err(fault) => match fetch_file(alloc, other, shelf) {
-            Err(ShelfFault::Memory) => Err(Reply::Memory),
-            _ => Err(Reply::from(fault)),
-        },
-    }
+    let Ok(first) = fetch_file(alloc, name, shelf) else {
+        return Err(Reply::Memory);
+    };
+    let Ok(second) = fetch_file(alloc, other, shelf) else {
+        return Err(Reply::Memory);
+    };
+    let file = first?;
+    let text = second?;
+    Ok((file, text))
 }
