@@ -20,7 +20,7 @@ use Rattle.dcc_top.specs.declared.reply.Reply.{Reply}
 use Rattle.dcc_top.specs.declared.reply.Reply.TheVariants.{Done, NoFile, FileFault, InputFault, Memory}
 use Rattle.dcc_commands.specs.Words.{Recognise}
 use Rattle.dcc_top.specs.Jobs.{greatest_file, requests_of_two}
-use Rattle.dcc_top.specs.Answer.{Files, OfFile, HasNoFile, no_memory, HasNoLines, IsUnrecognised, unfetched, untold, Recognises, recognised, unrecognised, Allows, for_recognition, cut_recognition, status_of}
+use Rattle.dcc_top.specs.Answer.{Files, OfFile, ShelfLacks, HasNoFile, no_file, file_fault, no_memory, HasNoLines, IsUnrecognised, unfetched, untold, Recognises, recognised, unrecognised, Allows, for_recognition, cut_recognition, status_of}
 use Rattle.dcc_top.specs.Call.{ShelfChange, SinkChange, Requests, Change, change, Rises, Appends, AppendsPart, unread, unwritten}
 use Rattle.dcc_top.specs.Causes.{AsksTwo, Replies}
 use Rattle.dcc_top.specs.Fetched.{IsPartOf, Gives, GivesOrLacks, FetchesOne, GivesTwo, HasNotBoth, FetchesTwo}
@@ -36,6 +36,57 @@ pub given-of_fetch : (told : Files) (name bytes : List ℕ) (part : Fetched) →
     → KeepsWithin 262144 (Ok part) bytes → OfFile told name (IsPartOf part bytes)
 given-of_fetch told name bytes Whole answer within = of-whole told name bytes 262144 (IsPartOf Whole bytes) answer refl
 given-of_fetch told name bytes Longer answer within = of-front told name bytes 262144 (IsPartOf Longer bytes) answer within (λ file long. long)
+
+module _ (name : List ℕ) (shelf : ShelfChange) (absences : shelf.absences.before ≤ shelf.absences.after)
+    (faults : shelf.faults.before ≤ shelf.faults.after) where
+  pub one-given : (fetched : FetchedFile) → OfFile shelf.files name (Gives fetched)
+      → shelf.asked.after ≡ shelf.asked.before ++ (name, greatest_file) ∷ [] → FetchesOne name shelf (Ok (Ok fetched))
+  one-given fetched of asked = record {
+    answer = of;
+    asked = asked;
+    asked_prefix = inl asked;
+    absences = absences;
+    absent = λ bad. cc;
+    faults = faults;
+    failed = λ bad. cc;
+  }
+
+  pub one-absent : ShelfLacks shelf.files name → shelf.asked.after ≡ shelf.asked.before ++ (name, greatest_file) ∷ []
+      → Rises shelf.absences → FetchesOne name shelf (Ok (Err NoFile))
+  one-absent lacks asked rose = record {
+    answer = no_file lacks;
+    asked = asked;
+    asked_prefix = inl asked;
+    absences = absences;
+    absent = λ is. rose;
+    faults = faults;
+    failed = λ bad. cc;
+  }
+
+  pub one-failed : shelf.asked.after ≡ shelf.asked.before ++ (name, greatest_file) ∷ [] → Rises shelf.faults
+      → FetchesOne name shelf (Ok (Err FileFault))
+  one-failed asked rose = record {
+    answer = file_fault;
+    asked = asked;
+    asked_prefix = inl asked;
+    absences = absences;
+    absent = λ bad. cc;
+    faults = faults;
+    failed = λ is. rose;
+  }
+
+  pub one-no_memory : (error : AllocError)
+      → (shelf.asked.after ≡ shelf.asked.before ++ (name, greatest_file) ∷ []) ⊎ (shelf.asked.after ≡ shelf.asked.before)
+      → FetchesOne name shelf (Err error)
+  one-no_memory error asked = record {
+    answer = tt;
+    asked = tt;
+    asked_prefix = asked;
+    absences = absences;
+    absent = tt;
+    faults = faults;
+    failed = tt;
+  }
 
 -- Two files.
 

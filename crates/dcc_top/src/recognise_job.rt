@@ -90,7 +90,10 @@ fn recognised_lines(
     let Ok(found) = recognise(alloc, &image, &program, &sigs) else {
         return Err(Reply::Memory);
     };
-    lines_of(alloc, &found).map_err(|_| Reply::Memory)
+    let Ok(lines) = lines_of(alloc, &found) else {
+        return Err(Reply::Memory);
+    };
+    Ok(lines)
 }
 
 // The lines of the procedures of the executable that the signatures tell. The error is the answer that says why there are

@@ -61,7 +61,12 @@ static ROWS: [Row; 6] = [
         "8086",
         "f_000d lib_line\nf_0029 lib_fill\n",
     ),
-    (ENTERS, b"lib_star C8 02 00 00\n", "186", "f_000d lib_star\n"),
+    (
+        ENTERS,
+        b"lib_star C8 02 00 00\n",
+        "186",
+        "f_000d lib_star\n",
+    ),
 ];
 
 fn rows() -> &'static [Row] {
@@ -145,10 +150,7 @@ fn files_are_refused(rt: HostRuntime) -> Result<(), Fail> {
 
 // What `sigs` answers on these words, where the shelf has a file of two bytes alone.
 fn words_answer(alloc: Global, words: &[&str], fetch: u64) -> Result<Answer, AllocError> {
-    let faults = Faults {
-        fetch,
-        ..NO_FAULTS
-    };
+    let faults = Faults { fetch, ..NO_FAULTS };
     answered_from(alloc, words, &[("ROW1.EXE", b"MZ")], b"", faults)
 }
 
