@@ -103,12 +103,12 @@ fn fetch_lines<H: Shelf>(
     recognition: Recognition<'_>,
     shelf: &mut H,
 ) -> Result<String, Reply>
-    ensures lines { IfOk result (λ lines. OfFile (H.files shelf.old) recognition.file.now (λ file.
-        OfFile (H.files shelf.old) recognition.sigs.now (λ text.
-        Recognises recognition.cpu file text (string_bytes lines)))) }
-    ensures refused { IfErr result (IsUnrecognised recognition.cpu (H.files shelf.old)
-        recognition.file.now recognition.sigs.now) }
-    ensures asks { AsksTwo recognition.file.now recognition.sigs.now
+    ensures lines { IfOk result (λ lines. OfFile (H.files shelf.old) recognition.entry.file.now (λ file.
+        OfFile (H.files shelf.old) recognition.entry.sigs.now (λ text.
+        Recognises recognition.entry.cpu file text (string_bytes lines)))) }
+    ensures refused { IfErr result (IsUnrecognised recognition.entry.cpu (H.files shelf.old)
+        recognition.entry.file.now recognition.entry.sigs.now) }
+    ensures asks { AsksTwo recognition.entry.file.now recognition.entry.sigs.now
         (shelf_change H.files H.asked H.absences H.faults shelf.old shelf.new) result }
 {
     let (file, text) = fetch_two(alloc, recognition.file, recognition.sigs, shelf)?;
@@ -124,7 +124,7 @@ pub(crate) fn recognise_reply<H: Shelf, O: Sink>(
     out: &mut O,
 ) -> Result<Reply, Failed>
     ensures { (left : Option (List ℕ)) (faults : ℕ) → Replies
-        (Some (Recognise recognition.file.now recognition.sigs.now recognition.cpu))
+        (Some (Recognise recognition.entry.file.now recognition.entry.sigs.now recognition.entry.cpu))
         (shelf_change H.files H.asked H.absences H.faults shelf.old shelf.new)
         (unread left faults)
         (sink_change O.taken O.faults out.old out.new) result }
