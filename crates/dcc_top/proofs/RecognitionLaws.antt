@@ -3,7 +3,8 @@ use Rattle.std.proofs.Common.{◌≡◌, ℕ, ◌<◌, ◌≤◌, ◌⊎◌, tru
 use Rattle.std.proofs.lemmas.List.{append-nil}
 use Rattle.std.proofs.lemmas.Result.{IfErr-at_err}
 use Rattle.std.specs.Prelude.{Result, Ok, Err, IfOk, IfErr, IsErrAnd, IsErrOf}
-use Rattle.std.specs.List.{Contains}
+use Rattle.std.specs.Prelude.{map}
+use Rattle.std.specs.List.{Contains, flat_map}
 use Rattle.std.specs.declared.alloc.AllocError.{AllocError}
 use Rattle.std.specs.declared.alloc.Global.{Global}
 use Rattle.dcc_io.specs.declared.outside.Failed.{Failed}
@@ -15,14 +16,29 @@ use Rattle.dcc_io.proofs.CountLemmas.{Rose-since, Rose-later}
 use Rattle.dcc_run.specs.Prefix.{IsPrefix}
 use Rattle.dcc_run.proofs.PrefixLaws.{prefix_refl, prefix_nil}
 use Rattle.dcc_machine.specs.declared.cpu.Cpu.{Cpu}
+use Rattle.dcc_machine.specs.declared.image.Image.{Image}
+use Rattle.dcc_machine.specs.MzImage.{IsImageOf}
+use Rattle.dcc_mz.specs.declared.fault.MzFault.{MzFault}
+use Rattle.dcc_mz.specs.declared.fault.MzFault.TheVariants.{TooLarge, Memory as NoImageMemory}
+use Rattle.dcc_mz.specs.Fault.{IsRefusalOrMemory}
+use Rattle.dcc_prog.specs.declared.frame.Program.{Program}
+use Rattle.dcc_prog.specs.Analysed.{IsProgramOf}
+use Rattle.dcc_prog.specs.Refused.{IsSound}
+use Rattle.dcc_sigs.specs.declared.signature.Sig.{Sig}
+use Rattle.dcc_sigs.specs.declared.signature.SigFault.{SigFault}
+use Rattle.dcc_sigs.specs.declared.signature.SigFault.TheVariants.{At as SigAt, Memory as SigMemory}
+use Rattle.dcc_sigs.specs.declared.recognised.Recognised.{Recognised}
+use Rattle.dcc_sigs.specs.Fault.{AreSigs, IsFaultOf}
+use Rattle.dcc_sigs.specs.Recognised.{told_by, recognised as recognised-by}
 use Rattle.dcc_top.specs.declared.fetch.FetchedFile.{FetchedFile}
 use Rattle.dcc_top.specs.declared.reply.Reply.{Reply}
-use Rattle.dcc_top.specs.declared.reply.Reply.TheVariants.{Done, NoFile, FileFault, InputFault, Memory}
+use Rattle.dcc_top.specs.declared.reply.Reply.TheVariants.{Done, NoFile, FileFault, InputFault, Memory, Format}
 use Rattle.dcc_commands.specs.Words.{Recognise}
 use Rattle.dcc_top.specs.Jobs.{greatest_file, requests_of_two}
-use Rattle.dcc_top.specs.Answer.{Files, OfFile, ShelfLacks, HasNoFile, no_file, file_fault, no_memory, HasNoLines, IsUnrecognised, unfetched, untold, Recognises, recognised, unrecognised, Allows, for_recognition, cut_recognition, status_of}
+use Rattle.dcc_top.specs.Answer.{Files, OfFile, ShelfLacks, HasNoFile, no_file, file_fault, no_memory, IsSoundFile, HasNoLines, imageless, offending_line, lineless, fault_reply, signatures_reply, IsUnrecognised, unfetched, untold, Recognises, recognised, unrecognised, Allows, for_recognition, cut_recognition, status_of}
 use Rattle.dcc_top.specs.Call.{ShelfChange, SinkChange, Requests, Change, change, Rises, Appends, AppendsPart, unread, unwritten}
 use Rattle.dcc_top.specs.Causes.{AsksTwo, Replies}
+use Rattle.dcc_top.specs.Recognition.{told_line}
 use Rattle.dcc_top.specs.Fetched.{IsPartOf, Gives, GivesOrLacks, FetchesOne, GivesTwo, HasNotBoth, FetchesTwo}
 use Rattle.dcc_top.specs.Status.{IsOneOf}
 use Rattle.dcc_top.proofs.AnswerLaws.{answers-nothing}
@@ -221,6 +237,44 @@ by-residual (Ok x) reply P is p = absurd is
 by-residual (Err r) reply P is p = subst (λ e. P (Err e)) (sym is) p
 
 -- The lines.
+
+-- a fault of the loader says why there are no lines
+pub imageless-of : (cpu : Cpu) (file text : List ℕ) (fault : MzFault) → IsRefusalOrMemory file fault → HasNoLines cpu file text (fault_reply fault)
+imageless-of cpu file text NoImageMemory h = lineless
+imageless-of cpu file text _ h = imageless h
+
+pub imageless-of_whole : (cpu : Cpu) (file text bytes : List ℕ) (fault : MzFault) → file ≡ bytes → IsRefusalOrMemory bytes fault → HasNoLines cpu file text (fault_reply fault)
+imageless-of_whole cpu file text bytes fault same h =
+    imageless-of cpu file text fault (subst (λ b. IsRefusalOrMemory b fault) (sym same) h)
+
+pub imageless-too_long : (cpu : Cpu) (file text : List ℕ) → 262144 < length file → HasNoLines cpu file text (Format TooLarge)
+imageless-too_long cpu file text long = imageless (λ small. omega (arith, long, small))
+
+-- and so does a fault of the signatures, where nothing refuses the program
+pub misread-of : (cpu : Cpu) (file text : List ℕ) (fault : SigFault) → IsSoundFile cpu file → IsFaultOf text fault → HasNoLines cpu file text (signatures_reply fault)
+misread-of cpu file text (SigAt line kind) sound h = offending_line sound h
+misread-of cpu file text SigMemory sound h = lineless
+
+-- the lines of what was recognised
+flat-told : (found : List Recognised) → flat_map told_line (map told_by found) ≡ flat_map (λ r. told_line (told_by r)) found
+flat-told [] = refl
+flat-told (r ∷ rs) = ap (λ (bytes : List ℕ). told_line (told_by r) ++ bytes) (flat-told rs)
+
+pub recognises-of : (cpu : Cpu) (file text lines : List ℕ) (image : Image) (program : Program) (sigs : List Sig) (found : List Recognised) → IsImageOf file image
+    → IsSound cpu image → IsProgramOf cpu image program → AreSigs text sigs → map told_by found ≡ recognised-by image program sigs
+    → lines ≡ flat_map (λ r. told_line (told_by r)) found → Recognises cpu file text lines
+recognises-of cpu file text lines image program sigs found is_image sound is_program are_sigs are same = record {
+  image = image;
+  is_image = is_image;
+  are_lines = record {
+    sound = sound;
+    program = program;
+    is_program = is_program;
+    sigs = sigs;
+    are_sigs = are_sigs;
+    listed = same ∙ sym (flat-told found) ∙ ap (flat_map told_line) are;
+  };
+}
 
 -- what is found of the two files as they were fetched holds of those that the shelf has under the names
 pub lines-of_two : (told : Files) (name other : List ℕ) (a b : FetchedFile) (cpu : Cpu) (result : Result (String Global) Reply)

@@ -1,6 +1,6 @@
 //! The job of `sigs`: the procedures of an executable that signatures tell.
 
-ghost use Rattle.std.specs.Prelude.{◌≡◌, ◌++◌, ℕ, List, Option, Some, map, IfOk, IfErr, OnOk, string_bytes};
+ghost use Rattle.std.specs.Prelude.{◌≡◌, ◌++◌, ℕ, List, Option, Some, IfOk, IfErr, OnOk, string_bytes};
 ghost use Rattle.std.specs.List.{flat_map};
 ghost use Rattle.dcc_commands.specs.Words.{Recognise};
 ghost use Rattle.dcc_machine.specs.MzImage.{IsImageOf, IsLoaded};
@@ -62,7 +62,7 @@ fn push_line(alloc: Global, lines: &mut String, told: &Recognised) -> Result<(),
 
 // The lines of the procedures that signatures tell.
 fn lines_of(alloc: Global, found: &[Recognised]) -> Result<String, AllocError>
-    ensures { IfOk result (λ lines. string_bytes lines ≡ flat_map told_line (map told_by found.now)) }
+    ensures { IfOk result (λ lines. string_bytes lines ≡ flat_map (λ told. told_line (told_by told)) found.now) }
 {
     let mut lines = String::new(alloc);
     for told in found {
