@@ -320,20 +320,6 @@ asks-of_two name other shelf x cpu result asks each = record {
   failed = λ is. absurd (other-than FileFault FileFault lineless_statuses refl (each FileFault is) refl);
 }
 
--- an answer that is an error is one of any result
-error-known : {S T : Type 0} (reply : Reply) (A : Type 0) → IsErrOf {T = S} (Err reply) Memory ⊎ A → IsErrOf {T = T} (Err reply) Memory ⊎ A
-error-known reply A (inl memory) = inl (let same : reply ≡ Memory = cc in ap Err same)
-error-known reply A (inr a) = inr a
-
-pub asks-error : {S T : Type 0} (name other : List ℕ) (shelf : ShelfChange) (reply : Reply) → AsksTwo {T = S} name other shelf (Err reply)
-    → AsksTwo {T = T} name other shelf (Err reply)
-asks-error {S = S} {T = T} name other shelf reply asks = record {
-  asked = error-known {S = S} {T = T} reply (shelf.asked.after ≡ shelf.asked.before ++ requests_of_two name other) asks.asked;
-  asked_prefix = asks.asked_prefix;
-  absent = λ is. let same : reply ≡ NoFile = cc in asks.absent (ap Err same);
-  failed = λ is. let same : reply ≡ FileFault = cc in asks.failed (ap Err same);
-}
-
 pub lineless-each : (cpu : Cpu) (a b : FetchedFile) (file text : List ℕ) (result : Result (String Global) Reply)
     → Gives a file → Gives b text
     → ((file text : List ℕ) → Gives a file → Gives b text → IfErr result (HasNoLines cpu file text))
