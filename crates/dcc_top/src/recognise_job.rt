@@ -71,8 +71,8 @@ fn lines_of(alloc: Global, found: &[Recognised]) -> Result<String, AllocError>
     Ok(lines)
 }
 
-// The lines of the procedures of an executable, on the processor, that signatures tell. The error is the answer that says
-// why there are none.
+// The lines of the procedures of an executable, on the processor, that signatures tell. The error is the answer that
+// says why there are none.
 fn recognised_lines(
     alloc: Global,
     cpu: Cpu,
@@ -96,8 +96,8 @@ fn recognised_lines(
     Ok(lines)
 }
 
-// The lines of the procedures of the executable that the signatures tell. The error is the answer that says why there are
-// none.
+// The lines of the procedures of the executable that the signatures tell. The error is the answer that says why there
+// are none.
 fn fetch_lines<H: Shelf>(
     alloc: Global,
     recognition: Recognition<'_>,
@@ -115,8 +115,8 @@ fn fetch_lines<H: Shelf>(
     recognised_lines(alloc, recognition.cpu, &file, &text)
 }
 
-/// Writes a line for each procedure of the executable that a signature tells, or answers why there are none; whatever the
-/// input is, none of it is read. The error is a failed write.
+/// Writes a line for each procedure of the executable that a signature tells, or answers why there are none; whatever
+/// the input is, none of it is read. The error is a failed write.
 pub(crate) fn recognise_reply<H: Shelf, O: Sink>(
     alloc: Global,
     recognition: Recognition<'_>,
