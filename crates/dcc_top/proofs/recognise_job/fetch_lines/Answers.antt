@@ -16,19 +16,19 @@ returns-in_err-file-clause-refused g c =
 pub returns-clause-lines : goal.returns-clause-lines
 returns-clause-lines g c =
     let names = c.args.recognition in
-    lines-of_two (g.H.Shelf.files c.args.shelf.now) names.file.now names.sigs.now _ _ names.cpu
-    c.recognised_lines.result c.in_ok-file.ensures.gives c.recognised_lines.ensures.lines
+    lines-of_two (g.H.Shelf.files c.args.shelf.now) names.file.now names.sigs.now c.in_ok-file.file
+    c.in_ok-file.text names.cpu c.recognised_lines.result c.in_ok-file.ensures.gives c.recognised_lines.ensures.lines
 
 pub returns-clause-refused : goal.returns-clause-refused
 returns-clause-refused g c =
     let names = c.args.recognition in
-    lineless-of_two (g.H.Shelf.files c.args.shelf.now) names.file.now names.sigs.now _ _ names.cpu
-    c.recognised_lines.result c.in_ok-file.ensures.gives c.recognised_lines.ensures.refused
+    lineless-of_two (g.H.Shelf.files c.args.shelf.now) names.file.now names.sigs.now c.in_ok-file.file
+    c.in_ok-file.text names.cpu c.recognised_lines.result c.in_ok-file.ensures.gives c.recognised_lines.ensures.refused
 
 pub returns-clause-asks : goal.returns-clause-asks
 returns-clause-asks g c =
     let names = c.args.recognition in
     let gives = c.in_ok-file.ensures.gives in
     asks-of_two names.file.now names.sigs.now _ _ names.cpu c.recognised_lines.result c.in_ok-file.ensures.asks
-    (lineless-each names.cpu _ _ gives.0.file gives.1.file c.recognised_lines.result gives.0.holds gives.1.holds
+    (lineless-each names.cpu c.in_ok-file.file c.in_ok-file.text gives.0.file gives.1.file c.recognised_lines.result gives.0.holds gives.1.holds
     c.recognised_lines.ensures.refused)
