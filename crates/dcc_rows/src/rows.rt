@@ -4,6 +4,7 @@
 mod answers;
 mod assemblies;
 mod listings;
+mod recognitions;
 mod runs;
 mod texts;
 mod trials;
