@@ -1,9 +1,9 @@
 -- Functions that are declared as those of another text, which is otherwise written.
-use Rattle.std.proofs.Common.{◌≡◌, ℕ, Bool, true, ◌&&◌, ◌||◌, not, List, [], ◌∷◌, map, refl, sym, ap, ap₂, ◌∙◌}
+use Rattle.std.proofs.Common.{◌≡◌, ℕ, ◌+◌, Bool, true, ◌&&◌, ◌||◌, not, List, [], ◌∷◌, map, refl, sym, ap, ap₂, ◌∙◌}
 use Rattle.std.specs.Prelude.{filter}
 use Rattle.std.specs.List.{AllZip, list_all}
 use Rattle.dcc_c.specs.declared.syntax.Class.{Class}
-use Rattle.dcc_c.specs.Numbered.{numbered_functions}
+use Rattle.dcc_c.specs.Numbered.{numbered_function, numbered_functions}
 use Rattle.dcc_c.specs.Placement.{is_auto, takes_address}
 use Rattle.dcc_c.specs.Tree.{Word, Variable, Function, Tree}
 use Rattle.dcc_respell.specs.Respelled.{VariableAlike, FunctionAlike}
@@ -54,7 +54,10 @@ all-declared tree after (f ∷ fs) (h ∷ hs) alike autos =
 pub same-autos : (writing : Function → Writing) (at there : ℕ) (fs : List Function)
     → AllZip SameAutos (numbered_functions at fs) (numbered_functions there (map (function_by writing) fs))
 same-autos writing at there [] = tt
-same-autos writing at there (f ∷ fs) = (refl, same-autos writing _ _ fs)
+same-autos writing at there (f ∷ fs) =
+    let here = numbered_function at f in
+    let other = numbered_function there (function_by writing f) in
+    (refl, same-autos writing (here.last + 1) (other.last + 1) fs)
 
 declared-further : (f g h : Function) → IsDeclaredAs f g → IsDeclaredAs g h → IsDeclaredAs f h
 declared-further f g h first second = record {

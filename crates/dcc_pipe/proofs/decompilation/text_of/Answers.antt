@@ -1,10 +1,11 @@
-use Rattle.std.proofs.Common.{refl, ap, ◌∙◌}
+use Rattle.std.proofs.Common.{refl, ap, ◌∙◌, subst}
 use Rattle.std.proofs.lemmas.Result.{err_from_is_err_and}
 use Rattle.dcc_stack.specs.Accepted.{IsProgramOfFile}
 use Rattle.dcc_ir.specs.Views.{program_of}
 use Rattle.dcc_c.specs.Tree.{Tree}
+use Rattle.dcc_c.specs.Views.{tree_of}
 use Rattle.dcc_rules.specs.Views.{numbers_of}
-use Rattle.dcc_pipe.specs.WholeText.{whole_text}
+use Rattle.dcc_pipe.specs.WholeText.{whole_text, IsWholeText}
 use Rattle.dcc_globals.specs.Pieces.{operands_of}
 use Rattle.dcc_pipe.specs.Finished.{finished}
 use Rattle.dcc_pipe.specs.GlobalData.{globals_in}
@@ -45,7 +46,8 @@ returns-clause-text g c =
     let tidy = c.in_ok-tidied.ensures in
     let ids = numbers_of c.args.rules.now in
     let gs = globals_in c.args.program.now.procs.items r in
-    let whole = c.in_ok-plain.ensures.text in
+    let whole = subst (λ procs. IsWholeText (globals_in procs r) r (tree_of c.in_ok-plain.plain)) c.as_slice.ensures.value
+    c.in_ok-plain.ensures.text in
     let fits = prepared-fits p q is ids r tidy c.in_ok-plain.ensures.few in
     let file : IsProgramOfFile program.layout.cpu image program =
     record { loaded = c.requires.loaded; is_program = c.requires.program } in
@@ -70,7 +72,8 @@ returns-clause-typed g c =
     let q = program_of c.in_ok-prepared.prepared in
     let r = program_of c.in_ok-tidied.tidied in
     let gs = globals_in c.args.program.now.procs.items r in
-    let whole = c.in_ok-plain.ensures.text in
+    let whole = subst (λ procs. IsWholeText (globals_in procs r) r (tree_of c.in_ok-plain.plain)) c.as_slice.ensures.value
+    c.in_ok-plain.ensures.text in
     let made = finished-whole gs r whole _ c.in_ok-finished.ensures in
     (typed-tree (numbers_of c.args.rules.now) c.args.image.now c.args.program.now p q r
     (record { loaded = c.requires.loaded; is_program = c.requires.program }) c.in_ok-lifted.ensures.lifted
@@ -83,7 +86,8 @@ returns-clause-as_many g c =
     let q = program_of c.in_ok-prepared.prepared in
     let r = program_of c.in_ok-tidied.tidied in
     let gs = globals_in c.args.program.now.procs.items r in
-    let whole = c.in_ok-plain.ensures.text in
+    let whole = subst (λ procs. IsWholeText (globals_in procs r) r (tree_of c.in_ok-plain.plain)) c.as_slice.ensures.value
+    c.in_ok-plain.ensures.text in
     let made = finished-whole gs r whole _ c.in_ok-finished.ensures in
     functions-as_many c.args.program.now.layout.cpu c.args.image.now c.args.program.now _ c.requires.program
     (typed-tree (numbers_of c.args.rules.now) c.args.image.now c.args.program.now p q r
@@ -97,7 +101,8 @@ returns-clause-made g c =
     let q = program_of c.in_ok-prepared.prepared in
     let r = program_of c.in_ok-tidied.tidied in
     let gs = globals_in c.args.program.now.procs.items r in
-    let whole = c.in_ok-plain.ensures.text in
+    let whole = subst (λ procs. IsWholeText (globals_in procs r) r (tree_of c.in_ok-plain.plain)) c.as_slice.ensures.value
+    c.in_ok-plain.ensures.text in
     record {
       lifted = p;
       is_lifted = c.in_ok-lifted.ensures.lifted;
@@ -117,7 +122,9 @@ returns-clause-globals g c =
     let q = program_of c.in_ok-prepared.prepared in
     let r = program_of c.in_ok-tidied.tidied in
     let gs = globals_in c.args.program.now.procs.items r in
-    let made = finished-whole gs r c.in_ok-plain.ensures.text _ c.in_ok-finished.ensures in
+    let made = finished-whole gs r
+    (subst (λ procs. IsWholeText (globals_in procs r) r (tree_of c.in_ok-plain.plain)) c.as_slice.ensures.value
+    c.in_ok-plain.ensures.text) _ c.in_ok-finished.ensures in
     ap (λ (tree : Tree). tree.globals) made.is
     ∙ globals-are (numbers_of c.args.rules.now) c.args.image.now c.args.program.now p q r
     c.in_ok-lifted.ensures.lifted.lifted c.in_ok-prepared.ensures.ready c.in_ok-tidied.ensures
@@ -128,7 +135,8 @@ finished-requires g c =
     let q = program_of c.in_ok-prepared.prepared in
     let r = program_of c.in_ok-tidied.tidied in
     let gs = globals_in c.args.program.now.procs.items r in
-    let whole = c.in_ok-plain.ensures.text in
+    let whole = subst (λ procs. IsWholeText (globals_in procs r) r (tree_of c.in_ok-plain.plain)) c.as_slice.ensures.value
+    c.in_ok-plain.ensures.text in
     let fits = prepared-fits p q c.in_ok-prepared.ensures.ready (numbers_of c.args.rules.now) r c.in_ok-tidied.ensures
     c.in_ok-plain.ensures.few in
     whole-is-writable gs r whole fits

@@ -5,7 +5,7 @@ use Rattle.dcc_pipe.proofs.FinishedTexts.{is-finished}
 use Rattle.dcc_pipe.proofs.finishing.finished.Goals as goal
 
 pub returns : goal.returns
-returns g c =
-    is-finished c.respelled_texts_run_alike.ensures c.accesses_may_be_named.ensures c.needless_casts_may_go.ensures
-    (tree_of c.args.plain.now) _ _ c.requires (c.in_ok-written.ensures ∙ ap without_casts c.in_ok-by_names.ensures)
-    c.number.ensures
+returns g =
+    is-finished g.respelled_texts_run_alike.ensures g.accesses_may_be_named.ensures g.needless_casts_may_go.ensures
+    (tree_of g.args.plain.now) _ _ g.requires (g.in_ok-written.ensures ∙ ap without_casts g.in_ok-by_names.ensures)
+    g.number.ensures
