@@ -37,16 +37,19 @@ finished-kept law names casts plain writable =
     let first = named-kept law names plain writable in
     kept-further plain (with_names plain) (finished plain) first (casts-kept law casts (with_names plain) first.writable)
 
--- a tree whose lines are counted, and which was written without needless casts
+-- the written form of a finished text holds it, so that its lines can be counted
+pub finished-unbroken : RespelledTextsRunAlike → AccessesMayBeNamed → NeedlessCastsMayGo → (plain written : Tree)
+    → IsWritable plain → written ≡ finished plain → is_unbroken_tree written ≡ true
+finished-unbroken law names casts plain written writable same =
+    ap is_unbroken_tree same ∙ tree-unbroken (finished plain) (finished-kept law names casts plain writable).writable
+
+-- a tree whose lines are counted, and which was written so
 pub is-finished : RespelledTextsRunAlike → AccessesMayBeNamed → NeedlessCastsMayGo → (plain written counted : Tree)
-    → IsWritable plain → written ≡ finished plain → (is_unbroken_tree written ≡ true → counted ≡ numbered written)
-    → IsFinishedFrom plain counted
-is-finished law names casts plain written counted writable same counts =
-    let kept = finished-kept law names casts plain writable in
-    record {
-      is = counts (ap is_unbroken_tree same ∙ tree-unbroken (finished plain) kept.writable) ∙ ap numbered same;
-      kept = kept;
-    }
+    → IsWritable plain → written ≡ finished plain → counted ≡ numbered written → IsFinishedFrom plain counted
+is-finished law names casts plain written counted writable same counts = record {
+  is = counts ∙ ap numbered same;
+  kept = finished-kept law names casts plain writable;
+}
 
 -- what is told of the text of a program that is finished
 pub finished-whole : (globals : List Global) (p : inner.Program) {plain : Tree} (whole : IsWholeText globals p plain)

@@ -57,7 +57,7 @@ returns-clause-text g c =
     (globals-for c.globals_are_allowed.ensures c.globals_have_names.ensures c.globals_are_writable.ensures
     c.first_memories_are_equal.ensures r (operands_of program.procs.items) fits.textable.formed.image)
     (left-follows image program p r c.in_ok-lifted.ensures.lifted.lifted (left-simplified p q is ids r tidy) pace)
-    made.kept _ made.is
+    made.kept c.in_ok-finished.field-0 made.is
 
 pub returns-clause-none : goal.returns-clause-none
 returns-clause-none g c =
