@@ -1,6 +1,6 @@
 //! Words and their jobs. The values come from a reference reader apart from this one.
 
-use dcc_commands::{Attempt, Execution, Job, Product, Recognition, TextExecution, job_of};
+use dcc_commands::{Attempt, Execution, Job, Product, TextExecution, job_of};
 use dcc_machine::Cpu;
 use std::alloc::{AllocError, Global};
 use std::test::Fail;
@@ -54,10 +54,6 @@ fn asm(file: &str) -> Option<Job<'_>> {
     Some(Job::Assemble(file))
 }
 
-fn sigs<'a>(file: &'a str, sigs: &'a str, cpu: Cpu) -> Option<Job<'a>> {
-    Some(Job::Recognise(Recognition { file, sigs, cpu }))
-}
-
 #[test]
 fn commands_have_a_job(rt: HostRuntime) -> Result<(), Fail> {
     let rows = [
@@ -73,9 +69,6 @@ fn commands_have_a_job(rt: HostRuntime) -> Result<(), Fail> {
         ("procs --cpu=186 -- -F", procs("-F", Cpu::I186)),
         ("list F", list("F", Cpu::I8086)),
         ("list --cpu 186 F", list("F", Cpu::I186)),
-        ("sigs F S", sigs("F", "S", Cpu::I8086)),
-        ("sigs F --cpu=186 S", sigs("F", "S", Cpu::I186)),
-        ("sigs -- -F -S", sigs("-F", "-S", Cpu::I8086)),
         ("trial 0 1 0", trial(0, 1, 0)),
         ("trial 7 400 100000", trial(7, 400, 100_000)),
         ("trial -- 7 1000 1000000000", trial(7, 1_000, 1_000_000_000)),
@@ -121,7 +114,7 @@ fn commands_have_a_job(rt: HostRuntime) -> Result<(), Fail> {
 }
 
 // Words that are no command.
-static OTHER_WORDS: [&str; 91] = [
+static OTHER_WORDS: [&str; 86] = [
     "",
     "help",
     "--help",
@@ -192,11 +185,6 @@ static OTHER_WORDS: [&str; 91] = [
     "asm F --steps 1",
     "asm F --fill=1",
     "asm F --cpu 186",
-    "sigs",
-    "sigs F",
-    "sigs F S T",
-    "sigs F S --steps 1",
-    "sigs F S --cpu 286",
     "trial",
     "trial 7",
     "trial 7 1",

@@ -7,11 +7,11 @@ use Rattle.std.specs.Str.{bytes_eq}
 use Rattle.std.proofs.lemmas.Bool.{eqb-true, ltb-true, lt-ltb}
 use Rattle.std.proofs.lemmas.List.Sums.{split_at_first, passes_at_first}
 use Rattle.std.proofs.lemmas.Slice.Eq.{bytes_eq-Decides}
-use Rattle.dcc_commands.specs.Words.{Job, Make, Execute, ExecuteWatched, ExecuteText, Assemble, Try, Recognise, Parts, only_positional, with_word, with_value, set_value, value_in, is_positional, option_word, command_word, HasParts, no_word, positional_word, option_in_two, option_in_one, end_of_options, AskFor, make, execute, execute_watched, execute_text, assemble, try, recognise, steps_of, fill_of, cpu_of, seed_of, size_of, Kind, Positional, End, Names, Gives, Unknown, option_of, command_of, named, given, is_equals, option_kind, kind_of, parts_after, parts_of, without, with_one, with_two, with_three, run_job, text_job, trial_job, job_with, job_of}
+use Rattle.dcc_commands.specs.Words.{Job, Make, Execute, ExecuteWatched, ExecuteText, Assemble, Try, Parts, only_positional, with_word, with_value, set_value, value_in, is_positional, option_word, command_word, HasParts, no_word, positional_word, option_in_two, option_in_one, end_of_options, AskFor, make, execute, execute_watched, execute_text, assemble, try, steps_of, fill_of, cpu_of, seed_of, size_of, Kind, Positional, End, Names, Gives, Unknown, option_of, command_of, named, given, is_equals, option_kind, kind_of, parts_after, parts_of, without, with_one, with_three, run_job, text_job, trial_job, job_with, job_of}
 use Rattle.dcc_commands.specs.declared.job.Product.{Product}
 use Rattle.dcc_commands.specs.declared.job.Product.TheVariants.{Text, Procedures, Listing}
 use Rattle.dcc_commands.specs.declared.words.Command.{Command}
-use Rattle.dcc_commands.specs.declared.words.Command.TheVariants.{Makes, Run, Watch, RunC, Asm, Trial, Sigs}
+use Rattle.dcc_commands.specs.declared.words.Command.TheVariants.{Makes, Run, Watch, RunC, Asm, Trial}
 use Rattle.dcc_commands.specs.declared.words.OptionName.{OptionName}
 use Rattle.dcc_commands.specs.declared.words.OptionName.TheVariants.{Steps, Fill, Cpu}
 use Rattle.dcc_machine.specs.declared.cpu.Cpu.{Cpu as Processor}
@@ -84,8 +84,6 @@ asked-is _ _ (try {words} {first} {second} {third} {seed} {size} {steps} parts i
     ∙ ap (λ o. trial_job o (size_of second) (steps_of (Some third))) is
     ∙ ap (λ o. trial_job (Some seed) o (steps_of (Some third))) sized
     ∙ ap (λ o. option_map (Try seed size) o) also
-asked-is _ _ (recognise {words} {file} {sigs} {value} {cpu} parts is) =
-    ap (λ o. option_and_then (job_with Sigs) o) (parts-is words _ parts) ∙ ap (λ o. option_map (Recognise file sigs) o) is
 
 -- From the function to the relation.
 
@@ -129,10 +127,7 @@ command-from word c h = elim (chosen (bytes_eq word (codes "c")) (Makes Text) c 
               | inl a ↦ word-same word (codes "asm") a.0 ∙ ap command_word a.1
               | inr o ↦ elim (chosen (bytes_eq word (codes "trial")) Trial c _ o) [
                 | inl a ↦ word-same word (codes "trial") a.0 ∙ ap command_word a.1
-                | inr p ↦ elim (chosen (bytes_eq word (codes "sigs")) Sigs c _ p) [
-                  | inl a ↦ word-same word (codes "sigs") a.0 ∙ ap command_word a.1
-                  | inr q ↦ nothing-chosen c q
-                ]
+                | inr p ↦ nothing-chosen c p
               ]
             ]
           ]
@@ -238,25 +233,12 @@ without-from : (value : Option (List ℕ)) (job : Option Job) (j : Job) → with
 without-from None job j h = (refl, h)
 without-from (Some value) job j h = absurd (let f : ⊥ = cc in f)
 
--- the one positional word, two, and three
+-- the one positional word, and three
 one-from : (job : List ℕ → Option Job) (words : List (List ℕ)) (j : Job) → with_one job words ≡ Some j
     → (word : List ℕ) × (words ≡ word ∷ []) × (job word ≡ Some j)
 one-from job [] j h = absurd (let f : ⊥ = cc in f)
 one-from job (word ∷ []) j h = (word, refl, h)
 one-from job (a ∷ (b ∷ ws)) j h = absurd (let f : ⊥ = cc in f)
-
-record AreTwo (job : List ℕ → List ℕ → Option Job) (words : List (List ℕ)) (j : Job) : Type 0 where
-  first : List ℕ
-  second : List ℕ
-  words_are : words ≡ first ∷ (second ∷ [])
-  job_is : job first second ≡ Some j
-
-two-from : (job : List ℕ → List ℕ → Option Job) (words : List (List ℕ)) (j : Job) → with_two job words ≡ Some j
-    → AreTwo job words j
-two-from job [] j h = absurd (let f : ⊥ = cc in f)
-two-from job (a ∷ []) j h = absurd (let f : ⊥ = cc in f)
-two-from job (a ∷ (b ∷ [])) j h = record { first = a; second = b; words_are = refl; job_is = h }
-two-from job (a ∷ (b ∷ (c ∷ ws))) j h = absurd (let f : ⊥ = cc in f)
 
 record AreThree (job : List ℕ → List ℕ → List ℕ → Option Job) (words : List (List ℕ)) (j : Job) : Type 0 where
   first : List ℕ
@@ -343,15 +325,6 @@ trial-asked words job first second third (Some s) (Some n) (Some k) is sized als
     let same : Try s n k ≡ job = cc in
     subst (λ j. AskFor (command_word Trial ∷ words) j) same (try has is sized also)
 
-recognition-asked : (words : List (List ℕ)) (job : Job) (file sigs : List ℕ) (value : Option (List ℕ))
-    (cpu : Option Processor) → cpu_of value ≡ cpu
-    → HasParts words (record { positional = file ∷ (sigs ∷ []); steps = None; fill = None; cpu = value })
-    → option_map (Recognise file sigs) cpu ≡ Some job → AskFor (command_word Sigs ∷ words) job
-recognition-asked words job file sigs value None is has h = absurd (let f : ⊥ = cc in f)
-recognition-asked words job file sigs value (Some cpu) is has h =
-    let same : Recognise file sigs cpu ≡ job = cc in
-    subst (λ j. AskFor (command_word Sigs ∷ words) j) same (recognise has is)
-
 job-asked : (words : List (List ℕ)) (job : Job) (c : Command) (parts : Parts) → HasParts words parts
     → job_with c parts ≡ Some job → AskFor (command_word c ∷ words) job
 job-asked words job (Makes product) parts has h =
@@ -390,12 +363,6 @@ job-asked words job Trial parts has h =
     refl refl refl
     (parts-with words parts (t.first ∷ (t.second ∷ (t.third ∷ []))) None None None t.words_are a.0 b.0 d.0 has)
     t.job_is
-job-asked words job Sigs parts has h =
-    let a = without-from parts.steps _ job h in
-    let b = without-from parts.fill _ job a.1 in
-    let t = two-from _ parts.positional job b.1 in
-    recognition-asked words job t.first t.second parts.cpu (cpu_of parts.cpu) refl
-    (parts-with words parts (t.first ∷ (t.second ∷ [])) None None parts.cpu t.words_are a.0 b.0 refl has) t.job_is
 
 parts-asked : (words : List (List ℕ)) (job : Job) (c : Command) (parts : Option Parts) → ((p : Parts) → parts ≡ Some p → HasParts words p) →
     option_and_then (job_with c) parts ≡ Some job → AskFor (command_word c ∷ words) job

@@ -2,11 +2,11 @@
 use Rattle.std.proofs.Common.{◌≡◌, ℕ, ◌≤◌, true, false, List, [], ◌∷◌, ◌++◌, length, Option, Some, None, refl, sym, ap, ◌∙◌, subst, append_assoc, length-append, append-nil, arith}
 use Rattle.std.specs.Prelude.{is_some, IsSome, MatchOption, if◌then◌else◌}
 use Rattle.std.specs.Option.{option_map, option_and_then}
-use Rattle.dcc_commands.specs.Words.{Job, Parts, only_positional, with_word, with_value, set_value, value_in, Kind, Positional, End, Names, Gives, Unknown, kind_of, with_kind, parts_after, parts_of, without, with_one, with_two, with_three, job_with}
+use Rattle.dcc_commands.specs.Words.{Job, Parts, only_positional, with_word, with_value, set_value, value_in, Kind, Positional, End, Names, Gives, Unknown, kind_of, with_kind, parts_after, parts_of, without, with_one, with_three, job_with}
 use Rattle.dcc_commands.specs.WordsRead.{HasFourWords, parts_read}
 use Rattle.dcc_commands.specs.declared.words.Found.{Found}
 use Rattle.dcc_commands.specs.declared.words.Command.{Command}
-use Rattle.dcc_commands.specs.declared.words.Command.TheVariants.{Makes, Run, Watch, RunC, Asm, Trial, Sigs}
+use Rattle.dcc_commands.specs.declared.words.Command.TheVariants.{Makes, Run, Watch, RunC, Asm, Trial}
 use Rattle.dcc_commands.specs.declared.words.OptionName.{OptionName}
 use Rattle.dcc_commands.specs.declared.words.OptionName.TheVariants.{Steps, Fill, Cpu}
 
@@ -258,12 +258,6 @@ no-one job [] h = absurd (omega arith)
 no-one job (a ∷ []) h = absurd (omega arith)
 no-one job (a ∷ (b ∷ ws)) h = refl
 
-no-two : (job : List ℕ → List ℕ → Option Job) (words : List (List ℕ)) → 4 ≤ length words → with_two job words ≡ None
-no-two job [] h = absurd (omega arith)
-no-two job (a ∷ []) h = absurd (omega arith)
-no-two job (a ∷ (b ∷ [])) h = absurd (omega arith)
-no-two job (a ∷ (b ∷ (c ∷ ws))) h = refl
-
 no-three : (job : List ℕ → List ℕ → List ℕ → Option Job) (words : List (List ℕ)) → 4 ≤ length words
     → with_three job words ≡ None
 no-three job [] h = absurd (omega arith)
@@ -286,7 +280,6 @@ four-no_job Asm parts h =
     without-none parts.steps _ (without-none parts.fill _ (without-none parts.cpu _ (no-one _ parts.positional h)))
 four-no_job Trial parts h =
     without-none parts.steps _ (without-none parts.fill _ (without-none parts.cpu _ (no-three _ parts.positional h)))
-four-no_job Sigs parts h = without-none parts.steps _ (without-none parts.fill _ (no-two _ parts.positional h))
 
 pub four-no_command : (command : Option Command) (parts : Option Parts) → HasFourWords parts →
     option_and_then (λ c. option_and_then (job_with c) parts) command ≡ None

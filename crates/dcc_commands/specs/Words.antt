@@ -12,7 +12,7 @@ use Rattle.dcc_machine.specs.declared.cpu.Cpu.TheVariants.{I8086, I186}
 use Rattle.dcc_commands.specs.declared.job.Product.{Product}
 use Rattle.dcc_commands.specs.declared.job.Product.TheVariants.{Text, Procedures, Listing}
 use Rattle.dcc_commands.specs.declared.words.Command.{Command}
-use Rattle.dcc_commands.specs.declared.words.Command.TheVariants.{Makes, Run, Watch, RunC, Asm, Trial, Sigs}
+use Rattle.dcc_commands.specs.declared.words.Command.TheVariants.{Makes, Run, Watch, RunC, Asm, Trial}
 use Rattle.dcc_commands.specs.declared.words.OptionName.{OptionName}
 use Rattle.dcc_commands.specs.declared.words.OptionName.TheVariants.{Steps, Fill, Cpu as CpuOption}
 
@@ -31,8 +31,6 @@ pub data Job : Type 0 where
   Assemble : List ℕ → Job
   -- try the program of this seed and this size, for at most so many steps
   Try : ℕ → ℕ → ℕ → Job
-  -- recognise procedures of the executable with the first name by the signatures of the second, for this processor
-  Recognise : List ℕ → List ℕ → Cpu → Job
 
 -- the first word, as a command
 abbrev pub command_word : Command → List ℕ
@@ -44,7 +42,6 @@ command_word Watch = codes "watch"
 command_word RunC = codes "runc"
 command_word Asm = codes "asm"
 command_word Trial = codes "trial"
-command_word Sigs = codes "sigs"
 
 -- an option's name, as it is written
 abbrev pub option_word : OptionName → List ℕ
@@ -183,10 +180,6 @@ pub data AskFor : List (List ℕ) → Job → Type 0 where
       → size_of second ≡ Some size
       → steps_of (Some third) ≡ Some steps
       → AskFor (command_word Trial ∷ words) (Try seed size steps)
-  recognise : {words : List (List ℕ)} {file sigs : List ℕ} {value : Option (List ℕ)} {cpu : Cpu}
-      → HasParts words (record { positional = file ∷ (sigs ∷ []); steps = None; fill = None; cpu = value })
-      → cpu_of value ≡ Some cpu
-      → AskFor (command_word Sigs ∷ words) (Recognise file sigs cpu)
 
 -- Which words name which job, as functions: the one job that the words ask for, if any.
 
@@ -219,7 +212,6 @@ command_of word =
     else if bytes_eq word (codes "runc") then Some RunC
     else if bytes_eq word (codes "asm") then Some Asm
     else if bytes_eq word (codes "trial") then Some Trial
-    else if bytes_eq word (codes "sigs") then Some Sigs
     else None
 
 -- the kind of a word that begins with an option's name
@@ -274,14 +266,10 @@ abbrev pub without : Option (List ℕ) → Option Job → Option Job
 without None job = job
 without (Some value) job = None
 
--- the job of the one positional word, and those of two and of three
+-- the job of the one positional word, and that of three
 abbrev pub with_one : (List ℕ → Option Job) → List (List ℕ) → Option Job
 with_one job (word ∷ []) = job word
 with_one job _ = None
-
-abbrev pub with_two : (List ℕ → List ℕ → Option Job) → List (List ℕ) → Option Job
-with_two job (first ∷ (second ∷ [])) = job first second
-with_two job _ = None
 
 abbrev pub with_three : (List ℕ → List ℕ → List ℕ → Option Job) → List (List ℕ) → Option Job
 with_three job (first ∷ (second ∷ (third ∷ []))) = job first second third
@@ -318,9 +306,6 @@ job_with Trial parts =
     without parts.steps (without parts.fill (without parts.cpu
     (with_three (λ seed size steps. trial_job (seed_of seed) (size_of size) (steps_of (Some steps)))
     parts.positional)))
-job_with Sigs parts =
-    without parts.steps (without parts.fill
-    (with_two (λ file sigs. option_map (Recognise file sigs) (cpu_of parts.cpu)) parts.positional))
 
 -- the job of the words after the program's name, or none where they are no command
 unfoldable pub job_of : List (List ℕ) → Option Job

@@ -6,7 +6,6 @@ use Rattle.dcc_commands.specs.declared.job.Job.TheVariants.{Make as ReadMake}
 use Rattle.dcc_commands.specs.declared.job.Job.TheVariants.{Execute as ReadExecute, Assemble as ReadAssemble, Try as ReadTry}
 use Rattle.dcc_commands.specs.declared.job.Job.TheVariants.{ExecuteText as ReadExecuteText}
 use Rattle.dcc_commands.specs.declared.job.Job.TheVariants.{ExecuteWatched as ReadExecuteWatched}
-use Rattle.dcc_commands.specs.declared.job.Job.TheVariants.{Recognise as ReadRecognise}
 use Rattle.dcc_commands.specs.declared.words.Kind.{Kind as ReadKind}
 use Rattle.dcc_commands.specs.declared.words.Kind.TheVariants.{Positional as ReadPositional, End as ReadEnd}
 use Rattle.dcc_commands.specs.declared.words.Kind.TheVariants.{Names as ReadNames, Gives as ReadGives}
@@ -14,7 +13,7 @@ use Rattle.dcc_commands.specs.declared.words.Kind.TheVariants.{Unknown as ReadUn
 use Rattle.dcc_commands.specs.declared.words.Positions.{Positions}
 use Rattle.dcc_commands.specs.declared.words.Positions.TheVariants.{Empty, One, Two, Three}
 use Rattle.dcc_commands.specs.declared.words.Found.{Found}
-use Rattle.dcc_commands.specs.Words.{Job, Make, Execute, ExecuteWatched, ExecuteText, Assemble, Try, Recognise, IsSize, Kind}
+use Rattle.dcc_commands.specs.Words.{Job, Make, Execute, ExecuteWatched, ExecuteText, Assemble, Try, IsSize, Kind}
 use Rattle.dcc_commands.specs.Words.{Positional, End, Names, Gives, Unknown, Parts}
 
 -- the job that a value of the program names
@@ -25,8 +24,6 @@ job_read (ReadExecuteWatched run) = ExecuteWatched run.file.now run.steps run.cp
 job_read (ReadExecuteText run) = ExecuteText run.file.now run.steps run.fill
 job_read (ReadAssemble file) = Assemble file.now
 job_read (ReadTry attempt) = Try attempt.seed attempt.size attempt.steps
-job_read (ReadRecognise recognition) =
-    Recognise recognition.file.now recognition.sigs.now recognition.cpu
 
 -- the size of a trial is one
 abbrev pub IsSized : ReadJob → Type 0

@@ -46,17 +46,6 @@ pub struct Attempt {
     pub steps: u64,
 }
 
-/// The recognition of an executable's procedures.
-#[derive(Clone, Copy, PartialEq, Eq, Debug)]
-pub struct Recognition<'a> {
-    /// The executable's name.
-    pub file: &'a str,
-    /// The name of the file of signatures.
-    pub sigs: &'a str,
-    /// The processor for which the executable is analysed.
-    pub cpu: Cpu,
-}
-
 /// A job of the program.
 #[derive(Clone, Copy, PartialEq, Eq, Debug)]
 pub enum Job<'a> {
@@ -74,8 +63,6 @@ pub enum Job<'a> {
     ExecuteText(TextExecution<'a>),
     /// Assemble the listing of this name to the bytes of its image.
     Assemble(&'a str),
-    /// Recognise procedures of an executable by signatures.
-    Recognise(Recognition<'a>),
     /// Try a program made at random.
     Try(Attempt),
 }

@@ -4,5 +4,5 @@
 pub mod job;
 pub mod words;
 
-pub use job::{Attempt, Execution, Job, Product, Recognition, TextExecution};
+pub use job::{Attempt, Execution, Job, Product, TextExecution};
 pub use words::job_of;

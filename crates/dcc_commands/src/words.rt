@@ -9,14 +9,14 @@ ghost use Rattle.std.specs.Prelude.{string_bytes, codes, length};
 ghost use Rattle.std.specs.Char.{is_ascii_digit};
 ghost use Rattle.std.specs.List.{list_all};
 ghost use Rattle.std.specs.Option.{option_copied};
-ghost use Rattle.dcc_commands.specs.declared.words.Command.TheVariants.{Makes, Run, Watch, RunC, Asm, Trial, Sigs};
-ghost use Rattle.dcc_commands.specs.Words.{Execute, ExecuteWatched, ExecuteText, Assemble, Try, Recognise};
+ghost use Rattle.dcc_commands.specs.declared.words.Command.TheVariants.{Makes, Run, Watch, RunC, Asm, Trial};
+ghost use Rattle.dcc_commands.specs.Words.{Execute, ExecuteWatched, ExecuteText, Assemble, Try};
 ghost use Rattle.dcc_commands.specs.Words.{AskForOneJob, Parts, command_of, is_number, is_positional, job_of, job_with};
 ghost use Rattle.dcc_commands.specs.Words.{kind_of, number_of, option_of, parts_of, set_value, value_in, steps_of};
 ghost use Rattle.dcc_commands.specs.Words.{fill_of, cpu_of, seed_of, size_of, IsSize};
 ghost use Rattle.dcc_commands.specs.WordsRead.{HasFourWords, IsSized, job_read, kind_read, parts_read};
 
-use crate::job::{Attempt, Execution, Job, Product, Recognition, TextExecution};
+use crate::job::{Attempt, Execution, Job, Product, TextExecution};
 use dcc_machine::Cpu;
 
 /// A command, by its first word.
@@ -34,8 +34,6 @@ pub enum Command {
     Asm,
     /// `trial`
     Trial,
-    /// `sigs`
-    Sigs,
 }
 
 /// An option, by its name.
@@ -134,8 +132,6 @@ fn command_of(word: &str) -> Option<Command>
         Some(Command::Asm)
     } else if word == "trial" {
         Some(Command::Trial)
-    } else if word == "sigs" {
-        Some(Command::Sigs)
     } else {
         None
     }
@@ -403,21 +399,6 @@ impl<'a> Found<'a> {
             _ => None,
         }
     }
-
-    // The recognition of an executable's procedures.
-    fn recognition(self) -> Option<Recognition<'a>>
-        ensures { MatchOption result (job_with Sigs (parts_read self.entry) ≡ None)
-            (λ r. job_with Sigs (parts_read self.entry) ≡ Some (Recognise r.file.now r.sigs.now r.cpu)) }
-    {
-        match (self.positions, self.steps, self.fill) {
-            (Positions::Two(file, sigs), None, None) => Some(Recognition {
-                file,
-                sigs,
-                cpu: cpu_of(self.cpu)?,
-            }),
-            _ => None,
-        }
-    }
 }
 
 // What stands in the words after the command.
@@ -458,8 +439,7 @@ fn found_in(words: &[String]) -> Option<Found<'_>>
 /// of `--cpu CPU`: 8086 or 186, and 8086 where the option doesn't stand. `runc FILE` runs
 /// a text, for at most the steps of `--steps N` and with the fill of `--fill N`: 0 to 65535 in at most 5 digits, and 0
 /// where the option doesn't stand. `asm FILE` assembles a listing. `trial SEED SIZE STEPS` tries a program made at random: SEED is 0 to
-/// 18446744073709551615 in at most 20 digits, SIZE 1 to 1000 in at most 4, and STEPS as that of `--steps`. `sigs FILE
-/// SIGS` recognises procedures of an executable, analysed for the processor of `--cpu CPU`, by a file of signatures.
+/// 18446744073709551615 in at most 20 digits, SIZE 1 to 1000 in at most 4, and STEPS as that of `--steps`.
 #[tactic(auto, unfolding(crate::specs::Words::job_of))]
 pub fn job_of(words: &[String]) -> Option<Job<'_>>
     ensures job { MatchOption result (job_of (map string_bytes words.now) ≡ None)
@@ -475,7 +455,6 @@ pub fn job_of(words: &[String]) -> Option<Job<'_>>
         Command::RunC => Some(Job::ExecuteText(found.text_execution()?)),
         Command::Asm => Some(Job::Assemble(found.listing()?)),
         Command::Trial => Some(Job::Try(found.attempt()?)),
-        Command::Sigs => Some(Job::Recognise(found.recognition()?)),
     }
 }
 

@@ -4,7 +4,6 @@
 mod answers;
 mod assemblies;
 mod listings;
-mod recognitions;
 mod runs;
 mod texts;
 mod trials;

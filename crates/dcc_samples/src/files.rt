@@ -119,12 +119,12 @@ pub struct Answer {
     pub err: Vec<u8>,
 }
 
-/// Calls the top call with the words and no rules, where the shelf has these files, each with its name, and the input has
-/// these bytes. The input gives one byte a read, and the streams take at most 8 bytes a write.
-pub fn answered_from(
+/// Calls the top call with the words and no rules, where the shelf has one file, ROW1.EXE, of these bytes, and the
+/// input has these. The input gives one byte a read, and the streams take at most 8 bytes a write.
+pub fn answered_on(
     alloc: Global,
     words: &[&str],
-    named: &[(&str, &[u8])],
+    file: &[u8],
     input: &[u8],
     faults: Faults,
 ) -> Result<Answer, AllocError> {
@@ -133,9 +133,7 @@ pub fn answered_from(
         command.push(String::from_str(alloc, word)?)?;
     }
     let mut files = Vec::new(alloc);
-    for (name, file) in named {
-        files.push((String::from_str(alloc, name)?, file.to_vec(alloc)?))?;
-    }
+    files.push((String::from_str(alloc, "ROW1.EXE")?, file.to_vec(alloc)?))?;
     let mut shelf = MemShelf::new(alloc, files, [faults.fetch].to_vec(alloc)?);
     let mut input = MemSource::new(input.to_vec(alloc)?, [faults.read].to_vec(alloc)?, 1);
     let mut out = MemSink::new(alloc, [faults.out].to_vec(alloc)?, 8);
@@ -149,18 +147,6 @@ pub fn answered_from(
         out: out.taken().clone()?,
         err: err.taken().clone()?,
     })
-}
-
-/// Calls the top call with the words and no rules, where the shelf has one file, ROW1.EXE, of these bytes, and the
-/// input has these.
-pub fn answered_on(
-    alloc: Global,
-    words: &[&str],
-    file: &[u8],
-    input: &[u8],
-    faults: Faults,
-) -> Result<Answer, AllocError> {
-    answered_from(alloc, words, &[("ROW1.EXE", file)], input, faults)
 }
 
 /// Calls the top call with the words on an empty input.

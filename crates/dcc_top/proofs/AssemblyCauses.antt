@@ -9,7 +9,7 @@ use Rattle.dcc_commands.specs.declared.job.Product.TheVariants.{Procedures}
 use Rattle.dcc_commands.specs.Words.{Job, Execute, ExecuteWatched, ExecuteText, Assemble}
 use Rattle.dcc_top.specs.Answer.{OfFile, AllowsAssembly, assembled, unassembled, no_listing, misspelled}
 use Rattle.dcc_top.specs.Answer.{no_job, for_product, ran_file, ran_no_file, watched_file, watched_no_file}
-use Rattle.dcc_top.specs.Answer.{ran_text, ran_no_text, for_assembly, for_trial, for_recognition, status_of, line_of}
+use Rattle.dcc_top.specs.Answer.{ran_text, ran_no_text, for_assembly, for_trial, status_of, line_of}
 use Rattle.dcc_top.specs.Call.{Call}
 use Rattle.dcc_top.specs.Causes.{HasListingFault, IsNoListing, Names}
 use Rattle.dcc_top.specs.Headline.{HasAssembled}
@@ -18,7 +18,6 @@ use Rattle.dcc_top.specs.Status as exit
 use Rattle.dcc_top.proofs.StatusLaws.{are_apart, apart, no_file-status, image_faults, no_image-status, text_faults}
 use Rattle.dcc_top.proofs.StatusLaws.{no_unit-status, product_statuses, product-status, unmade_statuses, unmade-status}
 use Rattle.dcc_top.proofs.StatusLaws.{run_statuses, listing_faults, unassembled-status, trial_statuses, trial-status}
-use Rattle.dcc_top.proofs.StatusLaws.{recognition_statuses, recognition-status}
 use Rattle.dcc_top.proofs.NamedLaws.{assembly-done, assembly-refused}
 use Rattle.dcc_top.proofs.CauseLaws.{told, Allowed, Comes, told-at, one-of, named-file, runs-status}
 
@@ -110,8 +109,6 @@ module _ (call : Call) where
   misspelled-of _ reply output (for_assembly {name = name} h same) is = assembly-misspelled name reply output h is
   misspelled-of _ reply output (for_trial {seed = seed} {size = size} {steps = steps} sized h same) is =
       other reply trial_statuses refl (trial-status seed size steps reply output h) is
-  misspelled-of _ reply output (for_recognition {name = name} {sigs = sigs} {cpu = cpu} h same) is =
-      other reply recognition_statuses refl (recognition-status cpu (told call) name sigs reply output h) is
 
   pub listing-fault : Comes call → call.status ≡ 25 → HasListingFault call
   listing-fault a is =

@@ -2,12 +2,12 @@
 use Rattle.std.proofs.Common.{◌≡◌, ℕ, ◌⊎◌, inl, inr, true, List, [], ◌∷◌, Option, Some, None, refl, sym, ap, ◌∙◌, subst, arith}
 use Rattle.std.specs.Prelude.{◌≢◌}
 use Rattle.dcc_io.specs.Told.{append_told}
+use Rattle.dcc_io.proofs.ToldLemmas.{append_told-nil}
 use Rattle.dcc_mz.specs.declared.fault.MzFault.{MzFault}
 use Rattle.dcc_mz.specs.Fault.{IsRefusal}
 use Rattle.dcc_run.specs.End.{End}
 use Rattle.dcc_machine.specs.declared.cpu.Cpu.{Cpu}
 use Rattle.dcc_pipe.specs.declared.no_text.NoText.{NoText}
-use Rattle.dcc_pipe.specs.declared.no_text.NoText.TheVariants.{Refused}
 use Rattle.dcc_machine.specs.MzImage.{FormatFault, IsFirstFault}
 use Rattle.dcc_prog.specs.Refused.{IsSound, IsUnsound}
 use Rattle.dcc_machine_demand.specs.Refused.{IsAcceptedProgram, IsRefusedImage}
@@ -16,20 +16,20 @@ use Rattle.dcc_trial.specs.Trial.{IsWithout}
 use Rattle.dcc_reader.specs.declared.offence.ParseKind.{ParseKind}
 use Rattle.dcc_parse.specs.Fault.{IsRefusal as IsTextRefusal}
 use Rattle.dcc_top.specs.declared.reply.Reply.{Reply}
-use Rattle.dcc_top.specs.declared.reply.Reply.TheVariants.{Format, TextFault}
+use Rattle.dcc_top.specs.declared.reply.Reply.TheVariants.{Done, Format, TextFault}
 use Rattle.dcc_commands.specs.declared.job.Product.{Product}
 use Rattle.dcc_commands.specs.declared.job.Product.TheVariants.{Text, Procedures, Listing}
-use Rattle.dcc_commands.specs.Words.{Job, Make, Execute, ExecuteWatched, ExecuteText, Assemble, Try, Recognise, IsSize}
-use Rattle.dcc_top.specs.Jobs.{Analyses, to_make, to_watch, to_recognise, NamesFile, file_in, file_of, IsExecution, LoadsImage}
-use Rattle.dcc_top.specs.Answer.{Files, OfFile, HasNoImage, no_executable, misshapen, HasNoUnit, no_text, offends, IsUnmade, refused, no_image, AllowsProduct, made_of_file, unmade, Makes, IsRefusedAs, OfImages, Runs, TellsTrial, AllowsTrial, tried, untried, HasNoLines, imageless, unlisted, offending_line, lineless, unfetched, untold, AllowsRecognition, recognised, unrecognised, Allows, no_job, for_product, for_assembly, for_trial, for_recognition, ran_file, ran_no_file, watched_file, watched_no_file, ran_text, ran_no_text, ShelfHas, status_of, line_of, refusal_reply, reason_reply, no_trial_reply}
-use Rattle.dcc_top.specs.Call.{Call, Appends}
-use Rattle.dcc_top.specs.Causes.{IsAnswered, answered, found_no_memory, broke_off, IsCaused, HasRunFile, HasFormatFault, HasRefusal, HasTextFault, Names, IsMissing, IsNoText, EndsSo, IsUntried, IsTryable}
+use Rattle.dcc_commands.specs.Words.{Job, Make, Execute, ExecuteWatched, ExecuteText, Assemble, Try, IsSize}
+use Rattle.dcc_top.specs.Jobs.{Analyses, to_make, to_watch, file_in, file_of, IsExecution, LoadsImage}
+use Rattle.dcc_top.specs.Answer.{Files, OfFile, HasNoFile, no_file, file_fault, no_memory, HasNoImage, no_executable, misshapen, HasNoUnit, no_text, offends, IsUnmade, refused, no_image, AllowsProduct, made_of_file, unmade, Makes, IsRefusedAs, OfImages, Runs, TellsTrial, AllowsTrial, tried, untried, AllowsAssembly, assembled, unassembled, no_listing, misspelled, Allows, no_job, for_product, for_assembly, for_trial, ran_file, ran_no_file, watched_file, watched_no_file, ran_text, ran_no_text, ShelfLacks, status_of, line_of, reason_reply, no_trial_reply}
+use Rattle.dcc_top.specs.Call.{Call, Rises, Appends}
+use Rattle.dcc_top.specs.Causes.{IsAnswered, answered, found_no_memory, broke_off, IsCaused, HasRunFile, IsAbsent, IsUnreadable, HasFormatFault, HasRefusal, HasTextFault, Names, IsMissing, IsNoText, EndsSo, IsOutOfMemory, IsCutOff, IsUntried, IsTryable}
 use Rattle.dcc_top.specs.Headline.{HasText, HasProcedures, HasListing, HasTrial}
 use Rattle.dcc_top.specs.WatchedRun.{MeetsFoul}
 use Rattle.dcc_top.specs.Status.{IsOneOf, end_status}
 use Rattle.dcc_top.specs.Status as exit
 use Rattle.dcc_top.proofs.HeadlineLaws.{has-text, has-procedures, has-listing, has-trial}
-use Rattle.dcc_top.proofs.StatusLaws.{apart, are_apart, image_faults, refusals, text_faults, unmade_statuses, unmade-status, product_statuses, product-status, watched_run-status, no_file-status, no_image-status, no_unit-status, reason-status, run_statuses, run-status, text_run-status, assembly_statuses, assembly-status, untried_statuses, untried-status, trial_statuses, trial-status, recognition_statuses, recognition-status}
+use Rattle.dcc_top.proofs.StatusLaws.{apart, are_apart, image_faults, refusals, text_faults, unmade_statuses, unmade-status, product_statuses, product-status, watched_run-status, status-not_six, reply-at_3, reply-at_4, reply-at_5, reply-at_7, no_file-status, no_image-status, no_unit-status, reason-status, run_statuses, run-status, text_run-status, assembly_statuses, assembly-status, untried_statuses, untried-status, trial_statuses, trial-status}
 use Rattle.dcc_top.proofs.TrialLaws.{no_format_fault, tryable-one}
 use Rattle.dcc_top.proofs.NamedLaws.{file-name, IsAcceptedIn, IsRefusedIn, accepted_statuses, refused_statuses, accepted-one, refused-always as always-refused, job-misshapen, job-missing, text-refused, job-ended, watch-refused, watch-foul}
 
@@ -79,7 +79,7 @@ module _ (call : Call) where
   told-at n is not_six not_seven a = is-told a (λ e. not_six (sym is ∙ e)) (λ e. not_seven (sym is ∙ e))
 
   -- at a status of a list without those of a failed write and of want of memory an answer was told whole
-  pub told-among : (ns : List ℕ) → are_apart (6 ∷ (7 ∷ [])) ns ≡ true → IsOneOf call.status ns → Comes → IsTold
+  told-among : (ns : List ℕ) → are_apart (6 ∷ (7 ∷ [])) ns ≡ true → IsOneOf call.status ns → Comes → IsTold
   told-among ns far is a =
       is-told a (λ six. apart call.status (6 ∷ (7 ∷ [])) ns far (inl six) is) (λ seven. apart call.status (6 ∷ (7 ∷ [])) ns far (inr (inl seven)) is)
 
@@ -103,7 +103,6 @@ module _ (call : Call) where
       text_run-status _ steps before left reply output (h.runs file h.is_read.stands)
   runs-status (Assemble name) file reply output h = absurd h
   runs-status (Try seed size steps) file reply output h = absurd h
-  runs-status (Recognise name sigs cpu) file reply output h = absurd h
 
   -- There is no trial.
 
@@ -123,14 +122,9 @@ module _ (call : Call) where
       record { seed = seed; size = size; steps = steps; reason = reason; named = refl; reply_is = refl; without = h }
 
   -- the status of a trial is none of a list
-  pub no-trial : (seed size steps : ℕ) (reply : Reply) (output : List ℕ) (ns : List ℕ) → are_apart ns trial_statuses ≡ true → AllowsTrial seed size steps reply output → IsOneOf (status_of reply) ns → ⊥
+  no-trial : (seed size steps : ℕ) (reply : Reply) (output : List ℕ) (ns : List ℕ) → are_apart ns trial_statuses ≡ true → AllowsTrial seed size steps reply output → IsOneOf (status_of reply) ns → ⊥
   no-trial seed size steps reply output ns far h is =
       apart (status_of reply) ns trial_statuses far is (trial-status seed size steps reply output h)
-
-  -- the status of what signatures tell is none of a list
-  pub no-recognition : (name sigs : List ℕ) (cpu : Cpu) (reply : Reply) (output : List ℕ) (ns : List ℕ) → are_apart ns recognition_statuses ≡ true → AllowsRecognition cpu told name sigs reply output → IsOneOf (status_of reply) ns → ⊥
-  no-recognition name sigs cpu reply output ns far h is =
-      apart (status_of reply) ns recognition_statuses far is (recognition-status cpu told name sigs reply output h)
 
   -- a status of the list is not 0
   not-done : (status : ℕ) (ns : List ℕ) → are_apart ns (0 ∷ []) ≡ true → IsOneOf status ns → status ≢ 0
@@ -170,8 +164,6 @@ module _ (call : Call) where
       absurd (apart (status_of reply) (2 ∷ []) assembly_statuses refl is (assembly-status told name reply output h))
   usage-of _ reply output (for_trial {seed = seed} {size = size} {steps = steps} sized h same) is =
       absurd (no-trial seed size steps reply output (2 ∷ []) refl h is)
-  usage-of _ reply output (for_recognition {name = name} {sigs = sigs} {cpu = cpu} h same) is =
-      absurd (no-recognition name sigs cpu reply output (2 ∷ []) refl h is)
 
   pub usage : Comes → call.status ≡ 2 → call.job ≡ None
   usage a is =
@@ -299,8 +291,6 @@ module _ (call : Call) where
       absurd (apart (status_of reply) exit.stops assembly_statuses refl is (assembly-status told name reply output h))
   ended-of _ reply output (for_trial {seed = seed} {size = size} {steps = steps} sized h same) is =
       inr (untried-of seed size steps reply output h (not-done (status_of reply) exit.stops refl is))
-  ended-of _ reply output (for_recognition {name = name} {sigs = sigs} {cpu = cpu} h same) is =
-      absurd (no-recognition name sigs cpu reply output exit.stops refl h is)
 
   pub ran : Comes → IsOneOf call.status exit.stops → HasRunFile call ⊎ IsUntried call
   ran a is =
@@ -327,7 +317,6 @@ module _ (call : Call) where
       absurd (apart (status_of reply) (0 ∷ []) text_faults refl is (no_unit-status told name reply h))
   exited-of _ reply output (for_assembly h same) execution is = absurd execution
   exited-of _ reply output (for_trial sized h same) execution is = absurd execution
-  exited-of _ reply output (for_recognition h same) execution is = absurd execution
 
   pub exited : Comes → IsExecution call.job → call.status ≡ 0 → HasRunFile call
   exited a execution is =
@@ -377,28 +366,6 @@ module _ (call : Call) where
   product-misshapen product name cpu reply _ (unmade h) is =
       unmade-misshapen (Some (Make product name cpu)) product name cpu reply refl h is
 
-  lineless-misshapen : (name sigs : List ℕ) (cpu : Cpu) (file text : List ℕ) (reply : Reply) → ShelfHas told name file → HasNoLines cpu file text reply → status_of reply ≡ 8 →
-      IsMisshapen (Some (Recognise name sigs cpu)) reply
-  lineless-misshapen name sigs cpu file text _ has (imageless {fault = fault} first) is = record {
-    name = name;
-    fault = fault;
-    named = refl;
-    reply_is = refl;
-    fails = record { file = file; has = has; holds = first };
-  }
-  lineless-misshapen name sigs cpu file text _ has (unlisted refusal r) is =
-      absurd (apart (status_of (refusal_reply refusal)) (8 ∷ []) refusals refl (inl is) (reason-status (Refused refusal)))
-  lineless-misshapen name sigs cpu file text _ has (offending_line sound first) is = absurd (omega (arith, is))
-  lineless-misshapen name sigs cpu file text _ has lineless is = absurd (omega (arith, is))
-
-  recognition-misshapen : (name sigs : List ℕ) (cpu : Cpu) (reply : Reply) (output : List ℕ) → AllowsRecognition cpu told name sigs reply output → status_of reply ≡ 8 →
-      IsMisshapen (Some (Recognise name sigs cpu)) reply
-  recognition-misshapen name sigs cpu _ output (recognised f) is = absurd (omega (arith, is))
-  recognition-misshapen name sigs cpu reply _ (unrecognised (unfetched {other = other} named none)) is =
-      absurd (apart (status_of reply) (8 ∷ []) (3 ∷ (4 ∷ (7 ∷ []))) refl (inl is) (no_file-status told other reply none))
-  recognition-misshapen name sigs cpu reply _ (unrecognised (untold f)) is =
-      lineless-misshapen name sigs cpu f.file f.holds.file reply f.has f.holds.holds is
-
   format-of : (j : Option Job) (reply : Reply) (output : List ℕ) → Allowed j reply output → status_of reply ≡ 8 → IsMisshapen j reply
   format-of _ _ _ (no_job same) is = absurd (omega (arith, is))
   format-of _ reply output (for_product {product = product} {name = name} {cpu = cpu} h same) is =
@@ -419,8 +386,6 @@ module _ (call : Call) where
       absurd (apart (status_of reply) (8 ∷ []) assembly_statuses refl (inl is) (assembly-status told name reply output h))
   format-of _ reply output (for_trial {seed = seed} {size = size} {steps = steps} sized h same) is =
       absurd (no_format_fault seed size steps reply output sized h is)
-  format-of _ reply output (for_recognition {name = name} {sigs = sigs} {cpu = cpu} h same) is =
-      recognition-misshapen name sigs cpu reply output h is
 
   pub format : Comes → call.status ≡ 8 → HasFormatFault call
   format a is =
@@ -448,10 +413,9 @@ module _ (call : Call) where
       one-of (8 ∷ exit.faults) (inr (inr (inl refl))) (inr (inr (inr (inl refl)))) (format-always_of call.job refl file fault n loads first) a
 
   absent-always_of : (j : Option Job) → call.job ≡ j → IsMissing call → (reply : Reply) (output : List ℕ) → Allowed j reply output → IsOneOf (status_of reply) (3 ∷ exit.faults)
-  absent-always_of None is m reply output h =
-      let none = subst (λ x. NamesFile x m.name) is m.named in absurd (omega (arith, none.1))
+  absent-always_of None is m reply output h = let bad : file_of None ≡ Some m.name = ap file_of (sym is) ∙ m.named in cc
   absent-always_of (Some j) is m reply output h =
-      job-missing told before left m.files m.tells j m.name (subst (λ x. NamesFile x m.name) is m.named) m.lacks reply output h
+      job-missing told before left m.files m.tells j m.name (sym (ap file_of is) ∙ m.named) m.lacks reply output h
 
   pub absent-always : Comes → IsMissing call → IsOneOf call.status (3 ∷ exit.faults)
   absent-always a m =
@@ -494,32 +458,6 @@ module _ (call : Call) where
   turned-down product name cpu reply _ (unmade h) is =
       unmade-down (Make product name cpu) product name cpu (to_make product) reply h is
 
-  lineless-down : (name sigs : List ℕ) (cpu : Cpu) (file text : List ℕ) (reply : Reply) → ShelfHas told name file → HasNoLines cpu file text reply → IsOneOf (status_of reply) exit.refusals →
-      IsTurnedDown (Some (Recognise name sigs cpu)) reply
-  lineless-down name sigs cpu file text _ has (imageless first) is = absurd (apart 8 (8 ∷ []) exit.refusals refl (inl refl) is)
-  lineless-down name sigs cpu file text _ has (unlisted refusal r) is = record {
-    product = Procedures;
-    name = name;
-    cpu = cpu;
-    reason = Refused refusal;
-    job = Recognise name sigs cpu;
-    named = refl;
-    analyses = to_recognise sigs;
-    reply_is = refl;
-    is_refused = record { file = file; has = has; holds = r };
-  }
-  lineless-down name sigs cpu file text _ has (offending_line sound first) is =
-      absurd (apart 27 (27 ∷ []) exit.refusals refl (inl refl) is)
-  lineless-down name sigs cpu file text _ has lineless is = absurd (apart 7 (7 ∷ []) exit.refusals refl (inl refl) is)
-
-  recognition-down : (name sigs : List ℕ) (cpu : Cpu) (reply : Reply) (output : List ℕ) → AllowsRecognition cpu told name sigs reply output → IsOneOf (status_of reply) exit.refusals →
-      IsTurnedDown (Some (Recognise name sigs cpu)) reply
-  recognition-down name sigs cpu _ output (recognised f) is = absurd (apart 0 (0 ∷ []) exit.refusals refl (inl refl) is)
-  recognition-down name sigs cpu reply _ (unrecognised (unfetched {other = other} named none)) is =
-      absurd (apart (status_of reply) exit.refusals (3 ∷ (4 ∷ (7 ∷ []))) refl is (no_file-status told other reply none))
-  recognition-down name sigs cpu reply _ (unrecognised (untold f)) is =
-      lineless-down name sigs cpu f.file f.holds.file reply f.has f.holds.holds is
-
   refusal-of : (j : Option Job) (reply : Reply) (output : List ℕ) → Allowed j reply output → IsOneOf (status_of reply) exit.refusals → IsTurnedDown j reply ⊎ IsWithoutTrial j reply
   refusal-of _ _ _ (no_job same) is = absurd (apart 2 (2 ∷ []) exit.refusals refl (inl refl) is)
   refusal-of _ reply output (for_product {product = product} {name = name} {cpu = cpu} h same) is =
@@ -540,8 +478,6 @@ module _ (call : Call) where
       absurd (apart (status_of reply) exit.refusals assembly_statuses refl is (assembly-status told name reply output h))
   refusal-of _ reply output (for_trial {seed = seed} {size = size} {steps = steps} sized h same) is =
       inr (untried-of seed size steps reply output h (not-done (status_of reply) exit.refusals refl is))
-  refusal-of _ reply output (for_recognition {name = name} {sigs = sigs} {cpu = cpu} h same) is =
-      inl (recognition-down name sigs cpu reply output h is)
 
   has-refusal : (t : IsTold) → IsTurnedDown call.job t.reply → HasRefusal call
   has-refusal t r = record {
@@ -652,8 +588,6 @@ module _ (call : Call) where
       absurd (apart (status_of reply) (11 ∷ []) assembly_statuses refl (inl is) (assembly-status told name reply output h))
   offended-of _ reply output (for_trial {seed = seed} {size = size} {steps = steps} sized h same) is =
       absurd (no-trial seed size steps reply output (11 ∷ []) refl h (inl is))
-  offended-of _ reply output (for_recognition {name = name} {sigs = sigs} {cpu = cpu} h same) is =
-      absurd (no-recognition name sigs cpu reply output (11 ∷ []) refl h (inl is))
 
   pub text-fault : Comes → call.status ≡ 11 → HasTextFault call
   text-fault a is =
@@ -676,3 +610,152 @@ module _ (call : Call) where
   text_fault-always a name file steps fill named n none =
       one-of (11 ∷ exit.faults) (inr (inr (inl refl))) (inr (inr (inr (inl refl))))
       (λ reply output h. text-refused told before left n.files n.tells name steps fill file (named-file (ExecuteText name steps fill) name file named refl n) none reply output (subst (λ j. Allowed j reply output) named h)) a
+
+  -- What is written.
+
+  product-none : (product : Product) (name : List ℕ) (cpu : Cpu) (reply : Reply) (output : List ℕ) → AllowsProduct product cpu told name reply output → IsOneOf (status_of reply) exit.without_output → output ≡ []
+  product-none product name cpu _ output (made_of_file f) is =
+      absurd (apart 0 (0 ∷ []) exit.without_output refl (inl refl) is)
+  product-none product name cpu _ _ (unmade h) is = refl
+
+  trial-none : (seed size steps : ℕ) (reply : Reply) (output : List ℕ) → AllowsTrial seed size steps reply output → IsOneOf (status_of reply) exit.without_output → output ≡ []
+  trial-none seed size steps _ output (tried t) is =
+      absurd (apart 0 (0 ∷ []) exit.without_output refl (inl refl) is)
+  trial-none seed size steps _ _ (untried reason h) is = refl
+
+  assembly-none : (name : List ℕ) (reply : Reply) (output : List ℕ) → AllowsAssembly told name reply output → IsOneOf (status_of reply) exit.without_output → output ≡ []
+  assembly-none name _ output (assembled f) is =
+      absurd (apart 0 (0 ∷ []) exit.without_output refl (inl refl) is)
+  assembly-none name _ _ (unassembled h) is = refl
+
+  -- no job has put anything out at a refusal
+  output-none : (j : Option Job) (reply : Reply) (output : List ℕ) → Allowed j reply output → IsOneOf (status_of reply) exit.without_output → output ≡ []
+  output-none _ _ _ (no_job same) is = refl
+  output-none _ reply output (for_product {product = product} {name = name} {cpu = cpu} h same) is = product-none product name cpu reply output h is
+  output-none _ reply output (ran_file {name = name} {steps = steps} {cpu = cpu} f) is =
+      absurd (apart (status_of reply) exit.without_output run_statuses refl is (runs-status (Execute name steps cpu) f.file reply output f.holds))
+  output-none _ _ _ (ran_no_file h same) is = refl
+  output-none _ reply output (watched_file {name = name} {steps = steps} {cpu = cpu} f) is =
+      absurd (apart (status_of reply) exit.without_output run_statuses refl is (runs-status (ExecuteWatched name steps cpu) f.file reply output f.holds))
+  output-none _ _ _ (watched_no_file h same) is = refl
+  output-none _ reply output (ran_text {name = name} {steps = steps} {fill = fill} f) is =
+      absurd (apart (status_of reply) exit.without_output run_statuses refl is (runs-status (ExecuteText name steps fill) f.file reply output f.holds))
+  output-none _ _ _ (ran_no_text h same) is = refl
+  output-none _ reply output (for_assembly {name = name} h same) is = assembly-none name reply output h is
+  output-none _ reply output (for_trial {seed = seed} {size = size} {steps = steps} sized h same) is =
+      trial-none seed size steps reply output h is
+
+  pub nothing : Comes → IsOneOf call.status exit.without_output → call.output.taken.after ≡ call.output.taken.before
+  nothing a is =
+      let t = told-among exit.without_output refl is a in
+      let none = output-none call.job t.reply t.output t.allowed (subst (λ n. IsOneOf n exit.without_output) t.status_is is) in
+      t.out ∙ ap (λ l. append_told call.output.taken.before l) none ∙ append_told-nil call.output.taken.before
+
+  seven-not_done : (reply : Reply) → status_of reply ≡ 7 → reply ≢ Done
+  seven-not_done reply seven done = let e : 0 ≡ 7 = sym (ap status_of done) ∙ seven in omega (arith, e)
+
+  pub out-of_memory : Comes → call.status ≡ 7 → IsOutOfMemory call
+  out-of_memory (answered reply gives cause (inl t)) is =
+      let seven = sym t.0 ∙ is in
+      record {
+        reply = reply;
+        gives = gives;
+        not_done = seven-not_done reply seven;
+        line = t.1 ∙ ap (λ r. append_told call.errors.taken.before (line_of r)) (reply-at_7 reply seven);
+      }
+  out-of_memory (answered reply gives cause (inr t)) is = absurd (let e : 6 ≡ 7 = sym t.0 ∙ is in omega (arith, e))
+  out-of_memory (found_no_memory reply gives not (inl t)) is =
+      record { reply = reply; gives = gives; not_done = not; line = t.1 }
+  out-of_memory (found_no_memory reply gives not (inr t)) is =
+      absurd (let e : 6 ≡ 7 = sym t.0 ∙ is in omega (arith, e))
+  out-of_memory (broke_off due is_due broke) is =
+      absurd (let e : 6 ≡ 7 = sym broke.status_is ∙ is in omega (arith, e))
+
+  pub cut-off : Comes → call.status ≡ 6 → IsCutOff call
+  cut-off (answered reply gives cause (inl t)) is = absurd (status-not_six reply (sym t.0 ∙ is))
+  cut-off (answered reply gives cause (inr t)) is =
+      inr (record { reply = reply; gives = gives; err = inl (t.1, cause); failed = t.2 })
+  cut-off (found_no_memory reply gives not (inl t)) is =
+      absurd (let e : 7 ≡ 6 = sym t.0 ∙ is in omega (arith, e))
+  cut-off (found_no_memory reply gives not (inr t)) is =
+      inr (record { reply = reply; gives = gives; err = inr t.1; failed = t.2 })
+  cut-off (broke_off due is_due broke) is = inl (due, is_due, broke)
+
+  -- Why a file could not be had.
+
+  lacks-of_no_file : (name : List ℕ) (reply : Reply) → HasNoFile told name reply → status_of reply ≡ 3 → ShelfLacks told name
+  lacks-of_no_file name _ (no_file lacks) is = lacks
+  lacks-of_no_file name _ file_fault is = absurd (omega (arith, is))
+  lacks-of_no_file name _ no_memory is = absurd (omega (arith, is))
+
+  lacks-of_no_image : (name : List ℕ) (reply : Reply) → HasNoImage told name reply → status_of reply ≡ 3 → ShelfLacks told name
+  lacks-of_no_image name reply (no_executable h) is = lacks-of_no_file name reply h is
+  lacks-of_no_image name _ (misshapen f) is = absurd (omega (arith, is))
+
+  lacks-of_assembly : (name : List ℕ) (reply : Reply) (output : List ℕ) → AllowsAssembly told name reply output → status_of reply ≡ 3 → ShelfLacks told name
+  lacks-of_assembly name _ output (assembled f) is = absurd (omega (arith, is))
+  lacks-of_assembly name reply _ (unassembled (no_listing h)) is = lacks-of_no_file name reply h is
+  lacks-of_assembly name _ _ (unassembled (misspelled f)) is = absurd (omega (arith, is))
+
+  lacks-of_unmade : (product : Product) (name : List ℕ) (cpu : Cpu) (reply : Reply) → IsUnmade product cpu told name reply → status_of reply ≡ 3 → ShelfLacks told name
+  lacks-of_unmade product name cpu _ (refused reason f) is =
+      absurd (apart (status_of (reason_reply reason)) (3 ∷ []) refusals refl (inl is) (reason-status reason))
+  lacks-of_unmade product name cpu reply (no_image h) is = lacks-of_no_image name reply h is
+
+  lacks-of_product : (product : Product) (name : List ℕ) (cpu : Cpu) (reply : Reply) (output : List ℕ) → AllowsProduct product cpu told name reply output → status_of reply ≡ 3 → ShelfLacks told name
+  lacks-of_product product name cpu _ output (made_of_file f) is = absurd (omega (arith, is))
+  lacks-of_product product name cpu reply _ (unmade h) is = lacks-of_unmade product name cpu reply h is
+
+  absent-of : (j : Option Job) (reply : Reply) (output : List ℕ) → Allowed j reply output → status_of reply ≡ 3 → (name : List ℕ) × (file_of j ≡ Some name) × ShelfLacks told name
+  absent-of _ _ _ (no_job same) is = absurd (omega (arith, is))
+  absent-of _ reply output (for_product {product = product} {name = name} {cpu = cpu} h same) is =
+      (name, refl, lacks-of_product product name cpu reply output h is)
+  absent-of _ reply output (ran_file {name = name} {steps = steps} {cpu = cpu} f) is =
+      absurd (apart (status_of reply) (3 ∷ []) run_statuses refl (inl is) (runs-status (Execute name steps cpu) f.file reply output f.holds))
+  absent-of _ reply _ (ran_no_file {name = name} h same) is = (name, refl, lacks-of_no_image name reply h is)
+  absent-of _ reply output (watched_file {name = name} {steps = steps} {cpu = cpu} f) is =
+      absurd (apart (status_of reply) (3 ∷ []) run_statuses refl (inl is) (runs-status (ExecuteWatched name steps cpu) f.file reply output f.holds))
+  absent-of _ reply _ (watched_no_file {name = name} {cpu = cpu} h same) is =
+      (name, refl, lacks-of_unmade Procedures name cpu reply h is)
+  absent-of _ reply output (ran_text {name = name} {steps = steps} {fill = fill} f) is =
+      absurd (apart (status_of reply) (3 ∷ []) run_statuses refl (inl is) (runs-status (ExecuteText name steps fill) f.file reply output f.holds))
+  absent-of _ reply _ (ran_no_text {name = name} (no_text h) same) is =
+      (name, refl, lacks-of_no_file name reply h is)
+  absent-of _ _ _ (ran_no_text (offends f) same) is = absurd (omega (arith, is))
+  absent-of _ reply output (for_assembly {name = name} h same) is =
+      (name, refl, lacks-of_assembly name reply output h is)
+  absent-of _ reply output (for_trial {seed = seed} {size = size} {steps = steps} sized h same) is =
+      absurd (no-trial seed size steps reply output (3 ∷ []) refl h (inl is))
+
+  pub absent : Comes → call.status ≡ 3 → IsAbsent call
+  absent a is =
+      let t = told-at 3 is (λ e. omega (arith, e)) (λ e. omega (arith, e)) a in
+      let at = sym t.status_is ∙ is in
+      let h = absent-of call.job t.reply t.output t.allowed at in
+      record { name = h.0; named = h.1; lacks = h.2; rose = t.cause.no_file (reply-at_3 t.reply at) }
+
+  named-of : (j : Option Job) (reply : Reply) (output : List ℕ) → Allowed j reply output → status_of reply ≡ 4 → (name : List ℕ) × (file_of j ≡ Some name)
+  named-of None _ _ (no_job same) is = absurd (omega (arith, is))
+  named-of (Some (Make product name cpu)) reply output h is = (name, refl)
+  named-of (Some (Execute name steps cpu)) reply output h is = (name, refl)
+  named-of (Some (ExecuteWatched name steps cpu)) reply output h is = (name, refl)
+  named-of (Some (ExecuteText name steps fill)) reply output h is = (name, refl)
+  named-of (Some (Assemble name)) reply output h is = (name, refl)
+  named-of (Some (Try seed size steps)) reply output (for_trial sized h same) is =
+      absurd (no-trial seed size steps reply output (4 ∷ []) refl h (inl is))
+
+  pub unreadable : Comes → call.status ≡ 4 → IsUnreadable call
+  unreadable a is =
+      let t = told-at 4 is (λ e. omega (arith, e)) (λ e. omega (arith, e)) a in
+      let at = sym t.status_is ∙ is in
+      let h = named-of call.job t.reply t.output t.allowed at in
+      record { name = h.0; named = h.1; rose = t.cause.file_fault (reply-at_4 t.reply at) }
+
+  pub read-failed : Comes → call.status ≡ 5 → Rises call.input.faults
+  read-failed a is =
+      let t = told-at 5 is (λ e. omega (arith, e)) (λ e. omega (arith, e)) a in
+      t.cause.input_fault (reply-at_5 t.reply (sym t.status_is ∙ is))
+
+  -- a write failed where the status says so
+  pub write-failed : Comes → call.status ≡ 6 → Rises call.output.faults ⊎ Rises call.errors.faults
+  write-failed a is = elim (cut-off a is) [ inl cut ↦ inl cut.2.failed | inr cut ↦ inr cut.failed ]

@@ -37,7 +37,7 @@ pub of-whole : (told : Files) (name given : List ℕ) (most : ℕ) (P : List ℕ
 of-whole told name given most P gave p = record { file = given; has = λ files e. (gave files e).0; holds = p }
 
 -- what holds of every file that is longer holds of the file of the name
-pub of-front : (told : Files) (name given : List ℕ) (most : ℕ) (P : List ℕ → Type 0) → GaveFront told name most given → length given ≡ most → ((bytes : List ℕ) → most < length bytes → P bytes) →
+of-front : (told : Files) (name given : List ℕ) (most : ℕ) (P : List ℕ → Type 0) → GaveFront told name most given → length given ≡ most → ((bytes : List ℕ) → most < length bytes → P bytes) →
     OfFile told name P
 of-front None name given most P gave len each = record {
   file = given ++ 0 ∷ [];

@@ -6,15 +6,12 @@ pub mod WatchedLaws
 pub mod WatchedJobLaws
 pub mod AnswerLaws
 pub mod ReplyLaws
-pub mod RecognitionLaws
 pub mod HeadlineLaws
 pub mod TrialLaws
 pub mod NamedLaws
 pub mod CauseLaws
-pub mod FaultCauses
 pub mod WatchedCauses
 pub mod AssemblyCauses
-pub mod RecognitionCauses
 pub mod PromiseLaws
 pub mod HexLaws
 pub mod ProceduresLaws

@@ -1,7 +1,5 @@
 -- What is known of the file that the words name, where the shelf tells it.
 use Rattle.std.proofs.Common.{◌≡◌, ℕ, ◌+◌, ◌<◌, ◌≤◌, ◌⊎◌, inl, inr, true, false, List, [], ◌∷◌, Option, Some, None, refl, sym, ap, ◌∙◌, subst, arith}
-use Rattle.std.specs.Prelude.{slice_index_or}
-use Rattle.std.specs.List.{Contains}
 use Rattle.dcc_mz.specs.declared.fault.MzFault.{MzFault}
 use Rattle.dcc_mz.specs.declared.fault.MzFault.TheVariants.{Short, NotMz, Pages, HeaderPastImage, Reloc, EntryOutside, TooLarge, Memory as NoMemory}
 use Rattle.dcc_mz.specs.Fault.{IsRefusal}
@@ -27,22 +25,19 @@ use Rattle.dcc_machine_demand.specs.Refused.{IsAcceptedProgram, IsRefusedImage}
 use Rattle.dcc_machine_demand.proofs.RefusedLaws.{accepted-is_not_refused}
 use Rattle.dcc_asm.specs.Fault.{IsAssembled, IsFirstFault as IsFirstOffence}
 use Rattle.dcc_asm.proofs.TextLaws.{assembled_no_fault}
-use Rattle.dcc_sigs.specs.declared.signature.Sig.{Sig}
-use Rattle.dcc_sigs.specs.Fault.{AreSigs}
-use Rattle.dcc_sigs.proofs.Faults.{no-fault}
 use Rattle.dcc_top.specs.declared.reply.Reply.{Reply}
 use Rattle.dcc_commands.specs.declared.job.Product.{Product}
 use Rattle.dcc_commands.specs.declared.job.Product.TheVariants.{Text, Procedures, Listing}
-use Rattle.dcc_commands.specs.Words.{Job, Make, Execute, ExecuteWatched, ExecuteText, Assemble, Try, Recognise}
-use Rattle.dcc_top.specs.Jobs.{NamesFile, file_in, file_of, LoadsImage}
+use Rattle.dcc_commands.specs.Words.{Job, Make, Execute, ExecuteWatched, ExecuteText, Assemble, Try}
+use Rattle.dcc_top.specs.Jobs.{file_in, file_of, LoadsImage}
 use Rattle.dcc_top.specs.Execution.{Subject, machine_of, text_of, Finishes, ended, stopped_at_read, not_begun, FinishesOrStops, finishes, found_none}
-use Rattle.dcc_top.specs.Answer.{Files, OfFile, HasNoFile, no_file, file_fault, no_memory, HasNoImage, no_executable, misshapen, HasNoUnit, no_text, offends, IsUnassembled, no_listing, misspelled, AllowsAssembly, assembled, unassembled, HasNoLines, imageless, unlisted, offending_line, lineless, Recognises, unfetched, untold, AllowsRecognition, recognised, unrecognised, IsMadeOf, Refuses, IsUnmade, refused, no_image, AllowsProduct, made_of_file, unmade, Makes, IsRefusedAs, OfImages, RunsFile, Watches, WatchesFile, RunsText, RunsUnit, Allows, for_product, for_assembly, for_trial, for_recognition, ran_file, ran_no_file, watched_file, watched_no_file, ran_text, ran_no_text, ShelfLacks, status_of, refusal_reply, reason_reply}
+use Rattle.dcc_top.specs.Answer.{Files, OfFile, HasNoFile, no_file, file_fault, no_memory, HasNoImage, no_executable, misshapen, HasNoUnit, no_text, offends, IsUnassembled, no_listing, misspelled, AllowsAssembly, assembled, unassembled, IsMadeOf, Refuses, IsUnmade, refused, no_image, AllowsProduct, made_of_file, unmade, Makes, IsRefusedAs, OfImages, RunsFile, Watches, WatchesFile, RunsText, RunsUnit, Allows, for_product, for_assembly, for_trial, ran_file, ran_no_file, watched_file, watched_no_file, ran_text, ran_no_text, ShelfLacks, status_of, refusal_reply, reason_reply}
 use Rattle.dcc_top.specs.Call.{Call}
 use Rattle.dcc_top.specs.WatchedRun.{IsFoulAfter, FinishesWatched, stayed_clean, met_foul, clean_to_read, lacked_memory, EndsClean, MeetsFoul}
-use Rattle.dcc_top.specs.Causes.{Names, IsNoText, IsNoListing, IsNoSigs, EndsSo, file_ends, watched_ends, text_ends}
+use Rattle.dcc_top.specs.Causes.{Names, IsNoText, IsNoListing, EndsSo, file_ends, watched_ends, text_ends}
 use Rattle.dcc_top.specs.Status.{IsOneOf, end_status}
 use Rattle.dcc_top.proofs.AnswerLaws.{same-start}
-use Rattle.dcc_top.proofs.StatusLaws.{end-status, no_file-status}
+use Rattle.dcc_top.proofs.StatusLaws.{end-status}
 
 -- the name in the words is the one that is known
 pub name-of : (name other : List ℕ) → Some name ≡ Some other → name ≡ other
@@ -332,136 +327,12 @@ module _ (told : Files) (name : List ℕ) (files : List ℕ → Option (List ℕ
   faulty-run first status (inl four) = inr (inl four)
   faulty-run first status (inr seven) = inr (inr (inr (inr (inl seven))))
 
--- The one name of a list, and the two names of a list.
-
-first-alone : (k : ℕ) → k < 1 → k ≡ 0
-first-alone k below = omega (arith, below)
-
-first-or_second : (k : ℕ) → k < 2 → (k ≡ 0) ⊎ (k ≡ 1)
-first-or_second k below = grind arith
-
-named-one : (a x : List ℕ) → Contains (a ∷ []) x → a ≡ x
-named-one a x h = subst (λ k. slice_index_or (a ∷ []) k x ≡ x) (first-alone h.0 h.1) h.2
-
-named-two : (a b x : List ℕ) → Contains (a ∷ (b ∷ [])) x → (a ≡ x) ⊎ (b ≡ x)
-named-two a b x h = elim (first-or_second h.0 h.1) [
-  | inl first ↦ inl (subst (λ k. slice_index_or (a ∷ (b ∷ [])) k x ≡ x) first h.2)
-  | inr second ↦ inr (subst (λ k. slice_index_or (a ∷ (b ∷ [])) k x ≡ x) second h.2)
-]
-
--- What is known of two files that the shelf tells, of which the second is to tell procedures of the first.
-
-module _ (told : Files) (files : List ℕ → Option (List ℕ)) (tells : told ≡ Some files) (name sigs : List ℕ) (cpu : Cpu) where
-  -- one of them is lacking
-
-  not-held_two : (lacking : List ℕ) (P : List ℕ → List ℕ → Type 0) → Contains (name ∷ (sigs ∷ [])) lacking → files lacking ≡ None → OfFile told name (λ file. OfFile told sigs (P file)) → ⊥
-  not-held_two lacking P named lacks f = elim (named-two name sigs lacking named) [
-    | inl first ↦ not-held told name files tells (λ file. OfFile told sigs (P file)) (ap files first ∙ lacks) f
-    | inr second ↦ not-held told sigs files tells (P f.file) (ap files second ∙ lacks) f.holds
-  ]
-
-  unfetched-one : (n : ℕ) → IsOneOf n (3 ∷ (4 ∷ (7 ∷ []))) → IsOneOf n (3 ∷ (4 ∷ (6 ∷ (7 ∷ []))))
-  unfetched-one n (inl three) = inl three
-  unfetched-one n (inr (inl four)) = inr (inl four)
-  unfetched-one n (inr (inr (inl seven))) = inr (inr (inr (inl seven)))
-  unfetched-one n (inr (inr (inr x))) = absurd x
-
-  pub recognition-missing : (lacking : List ℕ) → Contains (name ∷ (sigs ∷ [])) lacking → files lacking ≡ None → (reply : Reply) (output : List ℕ) → AllowsRecognition cpu told name sigs reply output →
-      IsOneOf (status_of reply) (3 ∷ (4 ∷ (6 ∷ (7 ∷ []))))
-  recognition-missing lacking named lacks _ output (recognised f) =
-      absurd (not-held_two lacking (λ file text. Recognises cpu file text output) named lacks f)
-  recognition-missing lacking named lacks reply _ (unrecognised (unfetched {other = other} also none)) =
-      unfetched-one (status_of reply) (no_file-status told other reply none)
-  recognition-missing lacking named lacks reply _ (unrecognised (untold f)) =
-      absurd (not-held_two lacking (λ file text. HasNoLines cpu file text reply) named lacks f)
-
-  -- both are there
-  module _ (file text : List ℕ) (has : files name ≡ Some file) (has_text : files sigs ≡ Some text) where
-    held-two : (P : List ℕ → List ℕ → Type 0) → OfFile told name (λ x. OfFile told sigs (P x)) → P file text
-    held-two P f =
-        held told sigs files tells text (P file) has_text (held told name files tells file (λ x. OfFile told sigs (P x)) has f)
-
-    -- they could not be had for the shelf's fault or want of memory alone
-    faulty-two : (other : List ℕ) → Contains (name ∷ (sigs ∷ [])) other → (reply : Reply) → HasNoFile told other reply → (status_of reply ≡ 4) ⊎ (status_of reply ≡ 7)
-    faulty-two other named reply none = elim (named-two name sigs other named) [
-      | inl first ↦ faulty told name files tells file has reply (subst (λ x. HasNoFile told x reply) (sym first) none)
-      | inr second ↦ faulty told sigs files tells text has_text reply (subst (λ x. HasNoFile told x reply) (sym second) none)
-    ]
-
-    -- the statuses of what is told of them, of which those of the shelf's fault and of want of memory are
-    recognition-one : (ns : List ℕ) → ((n : ℕ) → (n ≡ 4) ⊎ (n ≡ 7) → IsOneOf n ns) → ((lines : List ℕ) → Recognises cpu file text lines → IsOneOf 0 ns) →
-        ((reply : Reply) → HasNoLines cpu file text reply → IsOneOf (status_of reply) ns) → (reply : Reply) (output : List ℕ) → AllowsRecognition cpu told name sigs reply output → IsOneOf (status_of reply) ns
-    recognition-one ns faults done each _ output (recognised f) =
-        done output (held-two (λ x y. Recognises cpu x y output) f)
-    recognition-one ns faults done each reply _ (unrecognised (unfetched {other = other} named none)) =
-        faults (status_of reply) (faulty-two other named reply none)
-    recognition-one ns faults done each reply _ (unrecognised (untold f)) =
-        each reply (held-two (λ x y. HasNoLines cpu x y reply) f)
-
-    -- where nothing refuses the program and there are signatures, want of memory alone leaves no lines
-    sound-lineless : OfImages file (IsSound cpu) → (signatures : List Sig) → AreSigs text signatures → (reply : Reply) → HasNoLines cpu file text reply → IsOneOf (status_of reply) (0 ∷ (4 ∷ (6 ∷ (7 ∷ []))))
-    sound-lineless a signatures are _ (imageless {fault = fault} first) =
-        absurd (refusal-not_image file a.image fault a.is_image first)
-    sound-lineless a signatures are _ (unlisted refusal r) =
-        inr (inr (inr (inl (ap (λ r. status_of (refusal_reply r)) (sound-memory cpu r.image refusal (a.each r.image r.is_image) r.refused)))))
-    sound-lineless a signatures are _ (offending_line {line = line} {kind = kind} sound first) =
-        absurd (no-fault text signatures line kind are first)
-    sound-lineless a signatures are _ lineless = inr (inr (inr (inl refl)))
-
-    pub recognition-done : OfImages file (IsSound cpu) → (signatures : List Sig) → AreSigs text signatures → (reply : Reply) (output : List ℕ) → AllowsRecognition cpu told name sigs reply output →
-        IsOneOf (status_of reply) (0 ∷ (4 ∷ (6 ∷ (7 ∷ []))))
-    recognition-done a signatures are =
-        recognition-one (0 ∷ (4 ∷ (6 ∷ (7 ∷ [])))) (faulty-one told name files tells 0) (λ lines r. inl refl) (sound-lineless a signatures are)
-
-    -- the executable has no image
-    misshapen-lineless : (fault : FormatFault) → IsFirstFault file fault → (reply : Reply) → HasNoLines cpu file text reply → IsOneOf (status_of reply) (8 ∷ (4 ∷ (6 ∷ (7 ∷ []))))
-    misshapen-lineless fault first _ (imageless also) = inl refl
-    misshapen-lineless fault first _ (unlisted refusal r) = absurd (not_both file r.image fault r.is_image first)
-    misshapen-lineless fault first _ (offending_line sound also) = absurd (not_both file sound.image fault sound.is_image first)
-    misshapen-lineless fault first _ lineless = inr (inr (inr (inl refl)))
-
-    pub recognition-misshapen : (fault : FormatFault) → IsFirstFault file fault → (reply : Reply) (output : List ℕ) → AllowsRecognition cpu told name sigs reply output →
-        IsOneOf (status_of reply) (8 ∷ (4 ∷ (6 ∷ (7 ∷ []))))
-    recognition-misshapen fault first =
-        recognition-one (8 ∷ (4 ∷ (6 ∷ (7 ∷ [])))) (faulty-one told name files tells 8) (λ lines r. absurd (not_both file r.image fault r.is_image first)) (misshapen-lineless fault first)
-
-    -- something refuses the program
-    unsound-lineless : OfImages file (IsUnsound cpu) → (reply : Reply) → HasNoLines cpu file text reply → IsOneOf (status_of reply) refused_statuses
-    unsound-lineless a _ (imageless {fault = fault} first) = absurd (refusal-not_image file a.image fault a.is_image first)
-    unsound-lineless a _ (unlisted (ConstructRefused kind at) r) = inl refl
-    unsound-lineless a _ (unlisted (LimitRefused what count) r) = inr (inl refl)
-    unsound-lineless a _ (unlisted MemoryRefused r) = inr (inr (inr (inr (inl refl))))
-    unsound-lineless a _ (offending_line sound first) =
-        absurd (sound-not_unsound cpu sound.image sound.sound (a.each sound.image sound.is_image))
-    unsound-lineless a _ lineless = inr (inr (inr (inr (inl refl))))
-
-    pub recognition-refused : OfImages file (IsUnsound cpu) → (reply : Reply) (output : List ℕ) → AllowsRecognition cpu told name sigs reply output → IsOneOf (status_of reply) refused_statuses
-    recognition-refused a =
-        recognition-one refused_statuses faulty-refused (λ lines r. absurd (sound-not_unsound cpu r.image r.are_lines.sound (a.each r.image r.is_image))) (unsound-lineless a)
-
-    -- nothing refuses the program, and there are no signatures
-    misread-lineless : OfImages file (IsSound cpu) → (reply : Reply) → HasNoLines cpu file text reply → IsOneOf (status_of reply) (27 ∷ (4 ∷ (6 ∷ (7 ∷ []))))
-    misread-lineless a _ (imageless {fault = fault} first) = absurd (refusal-not_image file a.image fault a.is_image first)
-    misread-lineless a _ (unlisted refusal r) =
-        inr (inr (inr (inl (ap (λ r. status_of (refusal_reply r)) (sound-memory cpu r.image refusal (a.each r.image r.is_image) r.refused)))))
-    misread-lineless a _ (offending_line sound first) = inl refl
-    misread-lineless a _ lineless = inr (inr (inr (inl refl)))
-
-    pub recognition-misread : OfImages file (IsSound cpu) → IsNoSigs text → (reply : Reply) (output : List ℕ) → AllowsRecognition cpu told name sigs reply output →
-        IsOneOf (status_of reply) (27 ∷ (4 ∷ (6 ∷ (7 ∷ []))))
-    recognition-misread a none =
-        recognition-one (27 ∷ (4 ∷ (6 ∷ (7 ∷ [])))) (faulty-one told name files tells 27) (λ lines r. absurd (none r.are_lines.sigs r.are_lines.are_sigs)) (misread-lineless a)
-
 -- What is allowed for a job, where the shelf tells the file of its name.
 
 module _ (told : Files) (before left : Option (List ℕ)) (files : List ℕ → Option (List ℕ)) (tells : told ≡ Some files) where
   -- what the shelf has under the name that is known, it has under the job's own
   own : (name other : List ℕ) (held : Option (List ℕ)) → Some name ≡ Some other → files other ≡ held → files name ≡ held
   own name other held same is = ap files (name-of name other same) ∙ is
-
-  -- the one name that a job names is that of a file that the shelf lacks
-  lacking : (name other : List ℕ) → Contains (name ∷ []) other → files other ≡ None → files name ≡ None
-  lacking name other is lacks = ap files (named-one name other is) ∙ lacks
 
   pub job-misshapen : (job : Job) (other file : List ℕ) (fault : FormatFault) → file_in job ≡ Some other → files other ≡ Some file → LoadsImage (Some job) → IsFirstFault file fault → (reply : Reply) (output : List ℕ) →
       Allows told before left (Some job) reply output → IsOneOf (status_of reply) (8 ∷ (4 ∷ (6 ∷ (7 ∷ []))))
@@ -481,31 +352,28 @@ module _ (told : Files) (before left : Option (List ℕ)) (files : List ℕ → 
   job-misshapen _ other file fault is has loads first reply _ (ran_no_text h same) = absurd loads
   job-misshapen _ other file fault is has loads first reply output (for_assembly h same) = absurd loads
   job-misshapen _ other file fault is has loads first reply output (for_trial sized h same) = absurd loads
-  job-misshapen _ other file fault is has loads first reply output (for_recognition h same) = absurd loads
 
-  pub job-missing : (job : Job) (other : List ℕ) → NamesFile (Some job) other → files other ≡ None → (reply : Reply) (output : List ℕ) → Allows told before left (Some job) reply output → IsOneOf (status_of reply)
+  pub job-missing : (job : Job) (other : List ℕ) → file_in job ≡ Some other → files other ≡ None → (reply : Reply) (output : List ℕ) → Allows told before left (Some job) reply output → IsOneOf (status_of reply)
       (3 ∷ (4 ∷ (6 ∷ (7 ∷ []))))
   job-missing _ other is lacks reply output (for_product {product = product} {name = name} {cpu = cpu} h same) =
-      product-missing told name files tells product cpu (lacking name other is lacks) reply output h
+      product-missing told name files tells product cpu (own name other None is lacks) reply output h
   job-missing _ other is lacks reply output (ran_file {name = name} {steps = steps} {cpu = cpu} f) =
-      absurd (not-held told name files tells (λ x. RunsFile cpu x steps before left reply output) (lacking name other is lacks) f)
+      absurd (not-held told name files tells (λ x. RunsFile cpu x steps before left reply output) (own name other None is lacks) f)
   job-missing _ other is lacks reply _ (ran_no_file {name = name} h same) =
-      missing-image told name files tells (lacking name other is lacks) reply h
+      missing-image told name files tells (own name other None is lacks) reply h
   job-missing _ other is lacks reply output (watched_file {name = name} {steps = steps} {cpu = cpu} f) =
-      absurd (not-held told name files tells (λ x. WatchesFile cpu x steps before left reply output) (lacking name other is lacks) f)
+      absurd (not-held told name files tells (λ x. WatchesFile cpu x steps before left reply output) (own name other None is lacks) f)
   job-missing _ other is lacks reply _ (watched_no_file {name = name} {cpu = cpu} h same) =
-      unmade-missing told name files tells Procedures cpu (lacking name other is lacks) reply h
+      unmade-missing told name files tells Procedures cpu (own name other None is lacks) reply h
   job-missing _ other is lacks reply output (ran_text {name = name} {steps = steps} {fill = fill} f) =
-      absurd (not-held told name files tells (λ x. RunsText x steps fill before left reply output) (lacking name other is lacks) f)
+      absurd (not-held told name files tells (λ x. RunsText x steps fill before left reply output) (own name other None is lacks) f)
   job-missing _ other is lacks reply _ (ran_no_text {name = name} (no_text h) same) =
-      missing told name files tells (lacking name other is lacks) reply h
+      missing told name files tells (own name other None is lacks) reply h
   job-missing _ other is lacks _ _ (ran_no_text {name = name} (offends f) same) =
-      absurd (not-held told name files tells _ (lacking name other is lacks) f)
+      absurd (not-held told name files tells _ (own name other None is lacks) f)
   job-missing _ other is lacks reply output (for_assembly {name = name} h same) =
-      assembly-missing told name files tells (lacking name other is lacks) reply output h
-  job-missing _ other is lacks reply output (for_trial sized h same) = absurd (omega (arith, is.1))
-  job-missing _ other is lacks reply output (for_recognition {name = name} {sigs = sigs} {cpu = cpu} h same) =
-      recognition-missing told files tells name sigs cpu other is lacks reply output h
+      assembly-missing told name files tells (own name other None is lacks) reply output h
+  job-missing _ other is lacks reply output (for_trial sized h same) = absurd (let none : ⊥ = cc in none)
 
   -- the text is refused
   pub text-refused : (name : List ℕ) (steps fill : ℕ) (file : List ℕ) → files name ≡ Some file → IsNoText file → (reply : Reply) (output : List ℕ) → Allows told before left
@@ -591,9 +459,6 @@ module _ (told : Files) (before left : Option (List ℕ)) (files : List ℕ → 
   no-trial_end : (seed size steps : ℕ) (file bytes : List ℕ) (end : End) → EndsSo file bytes (Try seed size steps) end → ⊥
   no-trial_end seed size steps file bytes end e = elim e [ ]
 
-  no-recognition_end : (name sigs : List ℕ) (cpu : Cpu) (file bytes : List ℕ) (end : End) → EndsSo file bytes (Recognise name sigs cpu) end → ⊥
-  no-recognition_end name sigs cpu file bytes end e = elim e [ ]
-
   -- the run that a job asks for ends as the definition says
   pub job-ended : (job : Job) (other file bytes : List ℕ) (end : End) → file_in job ≡ Some other → files other ≡ Some file → before ≡ Some bytes → EndsSo file bytes job end → (reply : Reply) (output : List ℕ) →
       Allows told before left (Some job) reply output → IsOneOf (status_of reply) (end_status end ∷ (4 ∷ (5 ∷ (6 ∷ (7 ∷ [])))))
@@ -615,5 +480,3 @@ module _ (told : Files) (before left : Option (List ℕ)) (files : List ℕ → 
       absurd (no-assembly_end name file bytes end e)
   job-ended _ other file bytes end is has told_left e reply output (for_trial {seed = seed} {size = size} {steps = steps} sized h same) =
       absurd (no-trial_end seed size steps file bytes end e)
-  job-ended _ other file bytes end is has told_left e reply output (for_recognition {name = name} {sigs = sigs} {cpu = cpu} h same) =
-      absurd (no-recognition_end name sigs cpu file bytes end e)

@@ -12,9 +12,7 @@ use Rattle.dcc_top.specs.Promises.{KeepsPromises}
 use Rattle.dcc_top.proofs.StatusLaws.{status-not_six}
 use Rattle.dcc_top.proofs.WatchedCauses.{watched-clean, watched-foul}
 use Rattle.dcc_top.proofs.AssemblyCauses.{has-assembled, assembled-always, listing-fault, listing_fault-always}
-use Rattle.dcc_top.proofs.RecognitionCauses.{has-recognised, recognised-always, misshapen-always, unsound-always, signatures-fault, signatures_fault-always}
-use Rattle.dcc_top.proofs.CauseLaws.{usage, usage-always, text, procedures, listing, trial, trial-always, exited, ran, ran-always, foul-always, format, format-always, absent-always, program-refused, refused-always, procedures_refused-always, listing_refused-always, watch_refused-always, text-always, procedures-always, listing-always, text-fault, text_fault-always}
-use Rattle.dcc_top.proofs.FaultCauses.{absent, unreadable, read-failed, nothing, out-of_memory, cut-off, write-failed}
+use Rattle.dcc_top.proofs.CauseLaws.{usage, usage-always, text, procedures, listing, trial, trial-always, exited, ran, ran-always, foul-always, read-failed, format, format-always, absent, absent-always, unreadable, program-refused, refused-always, procedures_refused-always, listing_refused-always, watch_refused-always, text-always, procedures-always, listing-always, text-fault, text_fault-always, nothing, out-of_memory, cut-off, write-failed}
 
 module _ (call : Call) where
   -- all that holds of what a call comes to, with what it has asked
@@ -26,14 +24,6 @@ module _ (call : Call) where
     listing = record { listing = listing call a; listing_always = listing-always call a };
     assembly = record { assembled = has-assembled call a; assembled_always = assembled-always call a };
     trial = record { trial = trial call a; trial_always = trial-always call a };
-    recognition = record {
-      recognised = has-recognised call a;
-      recognised_always = recognised-always call a;
-      format_always = misshapen-always call a;
-      refused_always = unsound-always call a;
-      signatures_fault = signatures-fault call a;
-      signatures_fault_always = signatures_fault-always call a;
-    };
     runs = record {
       exited = exited call a;
       ran = ran call a;

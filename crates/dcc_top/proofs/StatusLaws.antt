@@ -19,7 +19,7 @@ use Rattle.dcc_machine.proofs.TableLaws.{and_right}
 use Rattle.dcc_top.specs.declared.reply.Reply.{Reply}
 use Rattle.dcc_top.specs.declared.reply.Reply.TheVariants.{Done, NoFile, FileFault, InputFault, Memory}
 use Rattle.dcc_top.specs.Execution.{Subject, end_reply, Finishes, ended, stopped_at_read, not_begun, FinishesOrStops, finishes, found_none}
-use Rattle.dcc_top.specs.Answer.{Files, HasNoFile, no_file, file_fault, no_memory, HasNoImage, no_executable, misshapen, HasNoUnit, no_text, offends, IsUnassembled, no_listing, misspelled, AllowsAssembly, assembled, unassembled, HasNoLines, imageless, unlisted, offending_line, lineless, IsUnrecognised, unfetched, untold, AllowsRecognition, recognised, unrecognised, AllowsImage, image_made, image_refused, IsUnmade, refused, no_image, AllowsProduct, made_of_file, unmade, AllowsWatched, image_watched, image_unwatched, AllowsTrial, tried, untried, status_of, fault_reply, reason_reply, no_trial_reply}
+use Rattle.dcc_top.specs.Answer.{Files, HasNoFile, no_file, file_fault, no_memory, HasNoImage, no_executable, misshapen, HasNoUnit, no_text, offends, IsUnassembled, no_listing, misspelled, AllowsAssembly, assembled, unassembled, AllowsImage, image_made, image_refused, IsUnmade, refused, no_image, AllowsProduct, made_of_file, unmade, AllowsWatched, image_watched, image_unwatched, AllowsTrial, tried, untried, status_of, fault_reply, reason_reply, no_trial_reply}
 use Rattle.dcc_top.specs.WatchedRun.{FinishesWatched, stayed_clean, met_foul, clean_to_read, lacked_memory}
 use Rattle.dcc_top.specs.Status.{IsOneOf, end_status}
 use Rattle.dcc_commands.specs.declared.job.Product.{Product}
@@ -109,40 +109,6 @@ assembly_statuses = 0 ∷ listing_faults
 pub assembly-status : (told : Files) (name : List ℕ) (reply : Reply) (output : List ℕ) → AllowsAssembly told name reply output → IsOneOf (status_of reply) assembly_statuses
 assembly-status told name _ output (assembled f) = inl refl
 assembly-status told name reply _ (unassembled h) = inr (unassembled-status told name reply h)
-
--- the statuses where both files are there and no procedures are told, those where none are, and those of the job
-abbrev pub lineless_statuses : List ℕ
-lineless_statuses = 8 ∷ (9 ∷ (10 ∷ (27 ∷ (7 ∷ []))))
-
-pub lineless-status : (cpu : Cpu) (file text : List ℕ) (reply : Reply) → HasNoLines cpu file text reply → IsOneOf (status_of reply) lineless_statuses
-lineless-status cpu file text _ (imageless first) = inl refl
-lineless-status cpu file text _ (unlisted (ConstructRefused kind at) r) = inr (inl refl)
-lineless-status cpu file text _ (unlisted (LimitRefused what count) r) = inr (inr (inl refl))
-lineless-status cpu file text _ (unlisted MemoryRefused r) = inr (inr (inr (inr (inl refl))))
-lineless-status cpu file text _ (offending_line sound first) = inr (inr (inr (inl refl)))
-lineless-status cpu file text _ lineless = inr (inr (inr (inr (inl refl))))
-
-abbrev pub unrecognised_statuses : List ℕ
-unrecognised_statuses = 3 ∷ (4 ∷ lineless_statuses)
-
-among-unrecognised : (n : ℕ) → IsOneOf n (3 ∷ (4 ∷ (7 ∷ []))) → IsOneOf n unrecognised_statuses
-among-unrecognised n (inl three) = inl three
-among-unrecognised n (inr (inl four)) = inr (inl four)
-among-unrecognised n (inr (inr (inl seven))) = inr (inr (inr (inr (inr (inr (inl seven))))))
-among-unrecognised n (inr (inr (inr x))) = absurd x
-
-pub unrecognised-status : (cpu : Cpu) (told : Files) (name sigs : List ℕ) (reply : Reply) → IsUnrecognised cpu told name sigs reply → IsOneOf (status_of reply) unrecognised_statuses
-unrecognised-status cpu told name sigs reply (unfetched {other = other} named none) =
-    among-unrecognised (status_of reply) (no_file-status told other reply none)
-unrecognised-status cpu told name sigs reply (untold f) =
-    inr (inr (lineless-status cpu f.file f.holds.file reply f.holds.holds))
-
-abbrev pub recognition_statuses : List ℕ
-recognition_statuses = 0 ∷ unrecognised_statuses
-
-pub recognition-status : (cpu : Cpu) (told : Files) (name sigs : List ℕ) (reply : Reply) (output : List ℕ) → AllowsRecognition cpu told name sigs reply output → IsOneOf (status_of reply) recognition_statuses
-recognition-status cpu told name sigs _ output (recognised f) = inl refl
-recognition-status cpu told name sigs reply _ (unrecognised h) = inr (unrecognised-status cpu told name sigs reply h)
 
 -- the statuses of a refusal
 abbrev pub refusals : List ℕ

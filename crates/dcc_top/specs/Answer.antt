@@ -40,11 +40,6 @@ use Rattle.dcc_asm.specs.declared.fault.ListFault.TheVariants.{At as ListedAt, M
 use Rattle.dcc_asm.specs.declared.fault.ListKind.{ListKind}
 use Rattle.dcc_asm.specs.declared.fault.ListKind.TheVariants.{Length, Head, Word, Range, Odd, Place}
 use Rattle.dcc_asm.specs.Fault.{IsAssembled, IsFirstFault}
-use Rattle.dcc_sigs.specs.declared.signature.SigKind.{SigKind}
-use Rattle.dcc_sigs.specs.declared.signature.SigKind.TheVariants.{Form, Twice}
-use Rattle.dcc_sigs.specs.declared.signature.SigFault.{SigFault}
-use Rattle.dcc_sigs.specs.declared.signature.SigFault.TheVariants.{At as SigAt, Memory as SigMemory}
-use Rattle.dcc_sigs.specs.Fault.{IsFirstFault as IsFirstSigFault}
 use Rattle.dcc_trial.specs.declared.found.Trial.{Trial}
 use Rattle.dcc_trial.specs.declared.found.NoTrial.{NoTrial}
 use Rattle.dcc_trial.specs.declared.found.NoTrial.TheVariants.{Format as NoFormat, Refused as Untextable}
@@ -53,20 +48,18 @@ use Rattle.dcc_trial.specs.Lines.{AreLinesOf}
 use Rattle.dcc_trial.specs.Trial.{IsTrial, IsWithout}
 use Rattle.dcc_commands.specs.declared.job.Product.{Product}
 use Rattle.dcc_commands.specs.declared.job.Product.TheVariants.{Text, Procedures, Listing}
-use Rattle.dcc_commands.specs.Words.{Job, Make, Execute, ExecuteWatched, ExecuteText, Assemble, Try, Recognise, IsSize}
+use Rattle.dcc_commands.specs.Words.{Job, Make, Execute, ExecuteWatched, ExecuteText, Assemble, Try, IsSize}
 use Rattle.dcc_top.specs.declared.reply.Reply.{Reply}
 use Rattle.dcc_top.specs.declared.reply.Reply.TheVariants.{Done, Exited, Usage, NoFile, FileFault, InputFault, Memory}
 use Rattle.dcc_top.specs.declared.reply.Reply.TheVariants.{Format, Construct, Limit, NotYet, TextFault, ListingFault}
-use Rattle.dcc_top.specs.declared.reply.Reply.TheVariants.{SignaturesFault}
 use Rattle.dcc_top.specs.declared.reply.Reply.TheVariants.{Unfinished, Divided, Outside, Foul, Stuck}
 use Rattle.dcc_top.specs.Change.{Change}
 use Rattle.dcc_top.specs.Execution.{machine_of, text_of, Finishes, FinishesOrStops, IsCutRun}
 use Rattle.dcc_top.specs.Procedures.{AreProcedureLinesOf}
-use Rattle.dcc_top.specs.Recognition.{AreRecognisedLines}
 use Rattle.dcc_top.specs.Offset.{hex_offset}
 use Rattle.dcc_top.specs.Status as exit
 use Rattle.dcc_top.specs.WatchedRun.{watch_of, FinishesWatched}
-use Rattle.dcc_top.specs.Jobs.{NamesFile, greatest_text}
+use Rattle.dcc_top.specs.Jobs.{greatest_text}
 
 -- the name of a count, as it is told
 abbrev pub limit_word : LimitName → List ℕ
@@ -92,11 +85,6 @@ listing_word Range = codes "range"
 listing_word Odd = codes "odd"
 listing_word Place = codes "place"
 
--- the word for the way in which a line of signatures offends
-abbrev pub signatures_word : SigKind → List ℕ
-signatures_word Form = codes "form"
-signatures_word Twice = codes "twice"
-
 -- the exit status
 abbrev pub status_of : Reply → ℕ
 status_of Done = exit.done
@@ -112,7 +100,6 @@ status_of (Limit what count) = exit.limit
 status_of (NotYet at) = exit.not_yet
 status_of (TextFault line kind) = exit.text_fault
 status_of (ListingFault line kind) = exit.listing_fault
-status_of (SignaturesFault line kind) = exit.signatures_fault
 status_of (Unfinished steps) = exit.unfinished
 status_of Divided = exit.divided
 status_of (Outside at) = exit.outside
@@ -139,8 +126,6 @@ line_of (TextFault line kind) =
     codes "dcc: text " ++ (kind_word kind ++ (codes " at line " ++ (decimal line ++ codes "\n")))
 line_of (ListingFault line kind) =
     codes "dcc: listing " ++ (listing_word kind ++ (codes " at line " ++ (decimal line ++ codes "\n")))
-line_of (SignaturesFault line kind) =
-    codes "dcc: signatures " ++ (signatures_word kind ++ (codes " at line " ++ (decimal line ++ codes "\n")))
 line_of (Unfinished steps) = codes "running after " ++ (decimal steps ++ codes " steps\n")
 line_of Divided = codes "divide\n"
 line_of (Outside at) = codes "outside at " ++ (hex_offset at ++ codes "\n")
@@ -169,11 +154,6 @@ parse_reply ParseMemory = Memory
 abbrev pub listing_reply : ListFault → Reply
 listing_reply (ListedAt line kind) = ListingFault line kind
 listing_reply ListMemory = Memory
-
--- the answer where a file is no signatures
-abbrev pub signatures_reply : SigFault → Reply
-signatures_reply (SigAt line kind) = SignaturesFault line kind
-signatures_reply SigMemory = Memory
 
 -- the answer where a program is refused
 abbrev pub refusal_reply : Refusal → Reply
@@ -412,7 +392,6 @@ Runs (ExecuteWatched name steps cpu) file before left reply output =
 Runs (ExecuteText name steps fill) file before left reply output = RunsText file steps fill before left reply output
 Runs (Assemble name) file before left reply output = ⊥
 Runs (Try seed size steps) file before left reply output = ⊥
-Runs (Recognise name sigs cpu) file before left reply output = ⊥
 
 -- Listings.
 
@@ -437,52 +416,6 @@ pub data AllowsTrial (seed size steps : ℕ) : Reply → List ℕ → Type 0 whe
   untried : (reason : NoTrial)
       → IsWithout seed size steps reason
       → AllowsTrial seed size steps (no_trial_reply reason) []
-
--- Signatures.
-
--- on this processor nothing that the analyses tell stands in the file's image
-pub record IsSoundFile (cpu : Cpu) (file : List ℕ) : Type 0 where
-  pub image : Image
-  pub is_image : IsImageOf file image
-  pub sound : IsSound cpu image
-
--- on this processor these are the lines of the procedures of the file's image that the signatures of the text tell
-pub record Recognises (cpu : Cpu) (file text lines : List ℕ) : Type 0 where
-  pub image : Image
-  pub is_image : IsImageOf file image
-  pub are_lines : AreRecognisedLines cpu image text lines
-
--- The answer says why no procedures of the executable are told by the signatures of the text: the executable has no
--- image; on this processor it is refused as where its procedures are listed; or, where nothing refuses it, a line of the
--- text offends.
-pub data HasNoLines (cpu : Cpu) (file text : List ℕ) : Reply → Type 0 where
-  imageless : {fault : MzFault} → IsFormatRefusal file fault → HasNoLines cpu file text (Format fault)
-  unlisted : (refusal : Refusal) → IsRefusedAs Procedures cpu (Refused refusal) file
-      → HasNoLines cpu file text (refusal_reply refusal)
-  offending_line : {line : ℕ} {kind : SigKind} → IsSoundFile cpu file → IsFirstSigFault text line kind
-      → HasNoLines cpu file text (SignaturesFault line kind)
-  lineless : HasNoLines cpu file text Memory
-
--- The answer says why no procedures of the executable of the first name are told by the signatures of the second: one of
--- the two files could not be had, or both could and it is for what is in them.
-pub data IsUnrecognised (cpu : Cpu) (told : Files) (name sigs : List ℕ) : Reply → Type 0 where
-  unfetched : {other : List ℕ} {reply : Reply}
-      → NamesFile (Some (Recognise name sigs cpu)) other
-      → HasNoFile told other reply
-      → IsUnrecognised cpu told name sigs reply
-  untold : {reply : Reply}
-      → OfFile told name (λ file. OfFile told sigs (λ text. HasNoLines cpu file text reply))
-      → IsUnrecognised cpu told name sigs reply
-
--- The answer is allowed for the two files of these names, of which the second is to tell procedures of the first on this
--- processor, after these bytes.
-pub data AllowsRecognition (cpu : Cpu) (told : Files) (name sigs : List ℕ) : Reply → List ℕ → Type 0 where
-  recognised : {lines : List ℕ}
-      → OfFile told name (λ file. OfFile told sigs (λ text. Recognises cpu file text lines))
-      → AllowsRecognition cpu told name sigs Done lines
-  unrecognised : {reply : Reply}
-      → IsUnrecognised cpu told name sigs reply
-      → AllowsRecognition cpu told name sigs reply []
 
 -- All jobs.
 
@@ -523,14 +456,10 @@ pub data Allows (told : Files) (before left : Option (List ℕ)) : Option Job �
       → AllowsTrial seed size steps reply output
       → left ≡ before
       → Allows told before left (Some (Try seed size steps)) reply output
-  for_recognition : {name sigs : List ℕ} {cpu : Cpu} {reply : Reply} {output : List ℕ}
-      → AllowsRecognition cpu told name sigs reply output
-      → left ≡ before
-      → Allows told before left (Some (Recognise name sigs cpu)) reply output
 
--- The job was cut off by a failed write, where these bytes were due: what is made or assembled of the file, the lines
--- of a trial or those of recognised procedures, and then nothing of the input was taken; or what a run puts out, and then
--- no more was taken than the run had come to.
+-- The job was cut off by a failed write, where these bytes were due: what is made or assembled of the file or the lines
+-- of a trial, and then nothing of the input was taken; or what a run puts out, and then no more was taken than the run
+-- had come to.
 pub data IsCut (told : Files) (input output : Change (Option (List ℕ))) : Option Job → List ℕ → Type 0 where
   cut_product : {product : Product} {name due : List ℕ} {cpu : Cpu}
       → input.after ≡ input.before
@@ -553,7 +482,3 @@ pub data IsCut (told : Files) (input output : Change (Option (List ℕ))) : Opti
       → input.after ≡ input.before
       → TellsTrial seed size steps due
       → IsCut told input output (Some (Try seed size steps)) due
-  cut_recognition : {name sigs due : List ℕ} {cpu : Cpu}
-      → input.after ≡ input.before
-      → OfFile told name (λ file. OfFile told sigs (λ text. Recognises cpu file text due))
-      → IsCut told input output (Some (Recognise name sigs cpu)) due

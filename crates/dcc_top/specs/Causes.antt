@@ -27,19 +27,16 @@ use Rattle.dcc_asm.specs.declared.fault.ListKind.{ListKind}
 use Rattle.dcc_asm.specs.Fault.{IsAssembled, IsFirstFault}
 use Rattle.dcc_top.specs.declared.reply.Reply.{Reply}
 use Rattle.dcc_top.specs.declared.reply.Reply.TheVariants.{Done, NoFile, FileFault, InputFault, Memory, Format}
-use Rattle.dcc_top.specs.declared.reply.Reply.TheVariants.{TextFault, ListingFault, SignaturesFault}
-use Rattle.dcc_sigs.specs.declared.signature.Sig.{Sig}
-use Rattle.dcc_sigs.specs.declared.signature.SigKind.{SigKind}
-use Rattle.dcc_sigs.specs.Fault.{AreSigs, IsFirstFault as IsFirstSigFault}
+use Rattle.dcc_top.specs.declared.reply.Reply.TheVariants.{TextFault, ListingFault}
 use Rattle.dcc_trial.specs.declared.found.NoTrial.{NoTrial}
 use Rattle.dcc_trial.specs.Trial.{HasImage, IsWithout}
 use Rattle.dcc_commands.specs.declared.job.Product.{Product}
-use Rattle.dcc_commands.specs.Words.{Job, Execute, ExecuteWatched, ExecuteText, Assemble, Try, Recognise}
-use Rattle.dcc_top.specs.Jobs.{Analyses, NamesFile, file_in, file_of, requests_of, requests_of_two, greatest_text}
+use Rattle.dcc_commands.specs.Words.{Job, Execute, ExecuteWatched, ExecuteText, Assemble, Try}
+use Rattle.dcc_top.specs.Jobs.{Analyses, file_in, file_of, requests_of, greatest_text}
 use Rattle.dcc_top.specs.Execution.{machine_of, text_of, ending_after, end_reply}
 use Rattle.dcc_top.specs.WatchedRun.{EndsClean, HasRunClean, StopsAtFoul, foul_reply}
 use Rattle.dcc_top.specs.Answer.{Allows, IsCut, IsRefusedAs, OfImages, Runs, ShelfHas, ShelfLacks, status_of, line_of}
-use Rattle.dcc_top.specs.Answer.{IsSoundFile, reason_reply, no_trial_reply}
+use Rattle.dcc_top.specs.Answer.{reason_reply, no_trial_reply}
 use Rattle.dcc_top.specs.Call.{Call, Change, Requests, ShelfChange, SourceChange, SinkChange, Rises, Appends}
 use Rattle.dcc_top.specs.Call.{AppendsPart}
 use Rattle.dcc_top.specs.Delivery.{Answers, CutsShort, TellsReply}
@@ -65,15 +62,6 @@ pub record AsksOnce {T : Type 0} (name : List ℕ) (most : ℕ) (shelf : ShelfCh
         ⊎ (shelf.asked.after ≡ shelf.asked.before)
     pub absent : IsErrOf result NoFile → Rises shelf.absences
     pub failed : IsErrOf result FileFault → Rises shelf.faults
-
--- Two files are asked for, both whatever the shelf answers, and perhaps not where memory ran out; no file and a fault of
--- the shelf come where their counts rose.
-pub record AsksTwo {T : Type 0} (name other : List ℕ) (shelf : ShelfChange) (result : Result T Reply) : Type 0 where
-  pub asked : IsErrOf result Memory ⊎ (shelf.asked.after ≡ shelf.asked.before ++ requests_of_two name other)
-  pub asked_prefix : (more : Requests) × IsPrefix more (requests_of_two name other)
-      × (shelf.asked.after ≡ shelf.asked.before ++ more)
-  pub absent : IsErrOf result NoFile → Rises shelf.absences
-  pub failed : IsErrOf result FileFault → Rises shelf.faults
 
 -- The answer to a job.
 
@@ -202,7 +190,7 @@ pub record HasFoulStep (call : Call) (name : List ℕ) (steps : ℕ) (cpu : Cpu)
 
 -- Files that are not to be had.
 
--- the shelf tells that it has this file under the first name of the words
+-- the shelf tells that it has this file under the name of the words
 pub record Names (call : Call) (file : List ℕ) : Type 0 where
   pub name : List ℕ
   pub files : List ℕ → Option (List ℕ)
@@ -210,32 +198,25 @@ pub record Names (call : Call) (file : List ℕ) : Type 0 where
   pub tells : call.shelf.files ≡ Some files
   pub has : files name ≡ Some file
 
--- the shelf tells that it has these files under two names
-pub record HasTwo (call : Call) (name other file text : List ℕ) : Type 0 where
-  pub files : List ℕ → Option (List ℕ)
-  pub tells : call.shelf.files ≡ Some files
-  pub has : files name ≡ Some file
-  pub has_text : files other ≡ Some text
-
--- the shelf tells that it has no file under one of the names of the words
+-- the shelf tells that it has no file under the name of the words
 pub record IsMissing (call : Call) : Type 0 where
   pub name : List ℕ
   pub files : List ℕ → Option (List ℕ)
-  pub named : NamesFile call.job name
+  pub named : file_of call.job ≡ Some name
   pub tells : call.shelf.files ≡ Some files
   pub lacks : files name ≡ None
 
--- the shelf found no file of a name in the words: it has none, and its absences rose
+-- the shelf found no file of the name in the words: it has none, and its absences rose
 pub record IsAbsent (call : Call) : Type 0 where
   pub name : List ℕ
-  pub named : NamesFile call.job name
+  pub named : file_of call.job ≡ Some name
   pub lacks : ShelfLacks call.shelf.files name
   pub rose : Rises call.shelf.absences
 
--- the shelf could not give a file of the words, and its faults rose
+-- the shelf could not give the file of the words, and its faults rose
 pub record IsUnreadable (call : Call) : Type 0 where
   pub name : List ℕ
-  pub named : NamesFile call.job name
+  pub named : file_of call.job ≡ Some name
   pub rose : Rises call.shelf.faults
 
 -- Refusals.
@@ -250,10 +231,9 @@ pub record HasFormatFault (call : Call) : Type 0 where
   pub first : IsFormatRefusal file fault
   pub line : Appends call.errors (line_of (Format fault))
 
--- The program that the words name is refused on their processor, where its text, its procedures, its listing, its
--- watched run or the procedures that signatures tell are asked for, and the line tells why: a construct stands at the
--- offset, the count passes its number, or the text of the procedure with the offset as its entry lacks the shape that
--- the procedure asks for.
+-- The program that the words name is refused on their processor, where its text, its procedures, its listing or its
+-- watched run are asked for, and the line tells why: a construct stands at the offset, the count passes its number, or the text of the
+-- procedure with the offset as its entry lacks the shape that the procedure asks for.
 pub record HasRefusal (call : Call) : Type 0 where
   pub product : Product
   pub name : List ℕ
@@ -318,27 +298,6 @@ pub record HasListingFault (call : Call) : Type 0 where
 -- the text stands for no bytes, or it or they pass a limit
 abbrev pub IsNoListing : List ℕ → Type 0
 IsNoListing text = (bytes : List ℕ) → ¬ IsAssembled text bytes
-
--- nothing in the program that the words name is refused, and the signatures that they name are: the line tells which line
--- of these offends first, and how
-pub record HasSignaturesFault (call : Call) : Type 0 where
-  pub name : List ℕ
-  pub sigs : List ℕ
-  pub cpu : Cpu
-  pub file : List ℕ
-  pub text : List ℕ
-  pub line : ℕ
-  pub kind : SigKind
-  pub named : call.job ≡ Some (Recognise name sigs cpu)
-  pub has : ShelfHas call.shelf.files name file
-  pub has_text : ShelfHas call.shelf.files sigs text
-  pub sound : IsSoundFile cpu file
-  pub first : IsFirstSigFault text line kind
-  pub line_is : Appends call.errors (line_of (SignaturesFault line kind))
-
--- the text is that of no signatures
-abbrev pub IsNoSigs : List ℕ → Type 0
-IsNoSigs text = (sigs : List Sig) → ¬ AreSigs text sigs
 
 -- Want of memory, and writes that failed.
 

@@ -1,5 +1,4 @@
--- The headline: what `dcc c NAME --cpu CPU` promises where it answers 0; and what `procs`, `list`, `asm`, `trial` and
--- `sigs` do.
+-- The headline: what `dcc c NAME --cpu CPU` promises where it answers 0; and what `procs`, `list`, `asm` and `trial` do.
 use Rattle.std.specs.Prelude.{◌≡◌, ℕ, List, [], Option, codes}
 use Rattle.dcc_io.specs.Told.{append_told}
 use Rattle.dcc_machine.specs.declared.cpu.Cpu.{Cpu}
@@ -13,14 +12,11 @@ use Rattle.dcc_prog.specs.Watch.{IsClean}
 use Rattle.dcc_pipe.specs.Decompiled.{IsDecompiled}
 use Rattle.dcc_list.specs.Listed.{IsListing}
 use Rattle.dcc_asm.specs.Fault.{IsAssembled}
-use Rattle.dcc_sigs.specs.declared.signature.Sig.{Sig}
-use Rattle.dcc_sigs.specs.Fault.{AreSigs}
 use Rattle.dcc_trial.specs.declared.found.Trial.{Trial}
 use Rattle.dcc_trial.specs.Lines.{AreLinesOf}
 use Rattle.dcc_trial.specs.Trial.{IsTrial}
 use Rattle.dcc_top.specs.Answer.{Files, ShelfHas}
 use Rattle.dcc_top.specs.Procedures.{procedure_lines}
-use Rattle.dcc_top.specs.Recognition.{recognised_lines}
 
 -- THE HEADLINE. A text was appended to the output to which the executable of this name is decompiled on this processor:
 -- it does what the executable does, on every input, as long as the executable's run is clean.
@@ -76,20 +72,3 @@ pub record HasTrial (seed size steps : ℕ) (before after : Option (List ℕ)) :
   pub are_lines : AreLinesOf trial lines
   pub agrees : IsClean I8086 is_trial.image [] steps → are_lines.word ≡ codes "yes"
   pub appended : after ≡ append_told before lines
-
--- The lines of the procedures of the executable of the first name that the signatures of the second tell on this
--- processor were appended to the output: for each such procedure, by their entries, the name of its function in the text
--- that `c` writes, and the name that its signature gives it. Nothing that the analyses tell stands in the executable.
-pub record HasRecognised (cpu : Cpu) (told : Files) (name sigs : List ℕ) (before after : Option (List ℕ)) : Type 0 where
-  pub file : List ℕ
-  pub text : List ℕ
-  pub has : ShelfHas told name file
-  pub has_text : ShelfHas told sigs text
-  pub image : Image
-  pub is_image : IsImageOf file image
-  pub sound : IsSound cpu image
-  pub program : Program
-  pub is_program : IsProgramOf cpu image program
-  pub signatures : List Sig
-  pub are_sigs : AreSigs text signatures
-  pub appended : after ≡ append_told before (recognised_lines image program signatures)

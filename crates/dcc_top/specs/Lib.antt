@@ -4,14 +4,12 @@ pub mod Execution
 pub mod Status
 pub mod Offset
 pub mod Procedures
-pub mod Recognition
 pub mod WatchedRun
 pub mod Answer
 pub mod Headline
 pub mod Call
 pub mod Delivery
 pub mod Causes
-pub mod Fetched
 pub mod Promises
 pub use Rattle.dcc_machine.specs.MzImage
 pub use Rattle.dcc_prog.specs.Analysed

@@ -1,5 +1,5 @@
 -- What the program promises of each call: the text of `c`, the lists of `procs` and `list`, the bytes of `asm`, the lines
--- of `trial` and `sigs`, runs, watched runs, refusals, faults, and what is asked and told.
+-- of `trial`, runs, watched runs, refusals, faults, and what is asked and told.
 use Rattle.std.specs.Prelude.{◌≡◌, ◌≢◌, ◌⊎◌, ℕ, List, [], ◌∷◌, Some, None}
 use Rattle.dcc_run.specs.End.{End}
 use Rattle.dcc_machine.specs.declared.cpu.Cpu.{Cpu}
@@ -7,21 +7,18 @@ use Rattle.dcc_machine.specs.MzImage.{FormatFault, IsFirstFault}
 use Rattle.dcc_prog.specs.Refused.{IsSound, IsUnsound}
 use Rattle.dcc_machine_demand.specs.Refused.{IsAcceptedProgram, IsRefusedImage}
 use Rattle.dcc_asm.specs.Fault.{IsAssembled}
-use Rattle.dcc_sigs.specs.declared.signature.Sig.{Sig}
-use Rattle.dcc_sigs.specs.Fault.{AreSigs}
 use Rattle.dcc_top.specs.declared.reply.Reply.TheVariants.{Memory}
 use Rattle.dcc_top.specs.WatchedRun.{MeetsFoul}
 use Rattle.dcc_commands.specs.declared.job.Product.TheVariants.{Text, Procedures, Listing}
-use Rattle.dcc_commands.specs.Words.{Job, Make, ExecuteWatched, ExecuteText, Assemble, Try, Recognise}
+use Rattle.dcc_commands.specs.Words.{Job, Make, ExecuteWatched, ExecuteText, Assemble, Try}
 use Rattle.dcc_top.specs.Jobs.{IsExecution, LoadsImage}
 use Rattle.dcc_top.specs.Answer.{OfImages, line_of}
 use Rattle.dcc_top.specs.Call.{Call, Rises, AppendsPart}
-use Rattle.dcc_top.specs.Headline.{HasText, HasProcedures, HasListing, HasAssembled, HasTrial, HasRecognised}
+use Rattle.dcc_top.specs.Headline.{HasText, HasProcedures, HasListing, HasAssembled, HasTrial}
 use Rattle.dcc_top.specs.Causes.{IsAnswered, HasRunFile, EndsSo, HasCleanRun, HasFoulStep}
-use Rattle.dcc_top.specs.Causes.{Names, HasTwo, IsMissing, IsAbsent, IsUnreadable}
+use Rattle.dcc_top.specs.Causes.{Names, IsMissing, IsAbsent, IsUnreadable}
 use Rattle.dcc_top.specs.Causes.{HasFormatFault, HasRefusal, HasTextFault, IsNoText, IsOutOfMemory, IsCutOff}
 use Rattle.dcc_top.specs.Causes.{HasListingFault, IsNoListing, IsUntried, IsTryable}
-use Rattle.dcc_top.specs.Causes.{HasSignaturesFault, IsNoSigs}
 use Rattle.dcc_top.specs.Causes.{AsksPrefix, AsksAll}
 use Rattle.dcc_top.specs.Status.{IsOneOf, end_status}
 use Rattle.dcc_top.specs.Status as exit
@@ -88,39 +85,6 @@ pub record KeepsTrial (call : Call) : Type 0 where
       → call.job ≡ Some (Try seed size steps)
       → IsTryable seed size steps
       → IsOneOf call.status (exit.done ∷ (exit.not_yet ∷ (exit.write_fault ∷ (exit.no_memory ∷ []))))
-
--- `sigs` tells the procedures of the executable that signatures tell, on the processor of the words, wherever both files
--- are there, nothing that the analyses tell stands in the program, and the signatures can be read. It refuses the
--- executable before the signatures: for its format, for what refuses its program where `procs` is asked for, and then the
--- signatures for their first line that offends.
-pub record KeepsRecognition (call : Call) : Type 0 where
-  pub recognised : (name sigs : List ℕ) (cpu : Cpu)
-      → call.job ≡ Some (Recognise name sigs cpu)
-      → call.status ≡ exit.done
-      → HasRecognised cpu call.shelf.files name sigs call.output.taken.before call.output.taken.after
-  pub recognised_always : (name sigs file text : List ℕ) (cpu : Cpu) (signatures : List Sig)
-      → call.job ≡ Some (Recognise name sigs cpu)
-      → HasTwo call name sigs file text
-      → OfImages file (IsSound cpu)
-      → AreSigs text signatures
-      → IsOneOf call.status (exit.done ∷ exit.faults)
-  pub format_always : (name sigs file text : List ℕ) (cpu : Cpu) (fault : FormatFault)
-      → call.job ≡ Some (Recognise name sigs cpu)
-      → HasTwo call name sigs file text
-      → IsFirstFault file fault
-      → IsOneOf call.status (exit.format ∷ exit.faults)
-  pub refused_always : (name sigs file text : List ℕ) (cpu : Cpu)
-      → call.job ≡ Some (Recognise name sigs cpu)
-      → HasTwo call name sigs file text
-      → OfImages file (IsUnsound cpu)
-      → IsOneOf call.status (exit.construct ∷ (exit.limit ∷ exit.faults))
-  pub signatures_fault : call.status ≡ exit.signatures_fault → HasSignaturesFault call
-  pub signatures_fault_always : (name sigs file text : List ℕ) (cpu : Cpu)
-      → call.job ≡ Some (Recognise name sigs cpu)
-      → HasTwo call name sigs file text
-      → OfImages file (IsSound cpu)
-      → IsNoSigs text
-      → IsOneOf call.status (exit.signatures_fault ∷ exit.faults)
 
 -- What `run`, `watch` and `runc` put out and take, and how the run has ended, are those of the file.
 pub record KeepsRuns (call : Call) : Type 0 where
@@ -213,7 +177,7 @@ pub record KeepsRefusals (call : Call) : Type 0 where
 
 -- A fault of what lies outside comes where it happened in this call; and what is written then.
 pub record KeepsFaults (call : Call) : Type 0 where
-  -- there is no file of a name of the words, or it could not be read
+  -- there is no file of the name, or it could not be read
   pub absent : call.status ≡ exit.no_file → IsAbsent call
   pub absent_always : IsMissing call → IsOneOf call.status (exit.no_file ∷ exit.faults)
   pub unreadable : call.status ≡ exit.file_fault → IsUnreadable call
@@ -239,7 +203,6 @@ pub record KeepsPromises (call : Call) : Type 0 where
   pub listing : KeepsListing call
   pub assembly : KeepsAssembly call
   pub trial : KeepsTrial call
-  pub recognition : KeepsRecognition call
   pub runs : KeepsRuns call
   pub watch : KeepsWatch call
   pub refusals : KeepsRefusals call

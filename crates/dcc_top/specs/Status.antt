@@ -57,9 +57,6 @@ stuck = 24
 abbrev pub listing_fault : ℕ
 listing_fault = 25
 
-abbrev pub signatures_fault : ℕ
-signatures_fault = 27
-
 -- The faults that may come in the place of any answer: of the shelf, of a write, and want of memory; for a run one of
 -- the input too.
 abbrev pub faults : List ℕ
@@ -84,10 +81,7 @@ ends = done ∷ (unfinished ∷ (divided ∷ (outside ∷ [])))
 abbrev pub without_output : List ℕ
 without_output =
     usage
-    ∷ (no_file
-    ∷ (file_fault
-    ∷ (format
-    ∷ (construct ∷ (limit ∷ (text_fault ∷ (not_yet ∷ (listing_fault ∷ (signatures_fault ∷ [])))))))))
+    ∷ (no_file ∷ (file_fault ∷ (format ∷ (construct ∷ (limit ∷ (text_fault ∷ (not_yet ∷ (listing_fault ∷ []))))))))
 
 -- the status is one of the list
 abbrev pub IsOneOf : ℕ → List ℕ → Type 0

@@ -1,7 +1,6 @@
-//! Fetching what the words name: the image of an executable, the unit of a text, the bytes of a listing, or two files
-//! before anything is checked in them.
+//! Fetching what the words name: the image of an executable, the unit of a text, or the bytes of a listing.
 
-ghost use Rattle.std.specs.Prelude.{◌≡◌, IfOk, IfErr};
+ghost use Rattle.std.specs.Prelude.{IfOk, IfErr};
 ghost use Rattle.dcc_c.specs.Views.{tree_of};
 ghost use Rattle.dcc_machine.specs.MzImage.{IsImageOf, IsLoaded};
 ghost use Rattle.dcc_top.specs.Jobs.{greatest_file, greatest_text};
@@ -9,18 +8,17 @@ ghost use Rattle.dcc_asm.specs.Fault.{IsAssembled};
 ghost use Rattle.dcc_top.specs.Answer.{HasNoImage, HasNoUnit, IsReadAs, IsUnassembled, OfFile};
 ghost use Rattle.dcc_top.specs.Call.{shelf_change};
 ghost use Rattle.dcc_top.specs.Causes.{AsksOnce};
-ghost use Rattle.dcc_top.specs.Fetched.{FetchesOne, FetchesTwo};
 
 use crate::reply::Reply;
 use dcc_asm::{ListKind, assemble};
 use dcc_c::Unit;
-use dcc_io::{Fetched, Shelf, ShelfFault};
+use dcc_io::{Fetched, Shelf};
 use dcc_machine::Image;
 use dcc_mz::{MzFault, load};
 use dcc_parse::{ParseKind, parse};
-use std::alloc::{AllocError, Global};
+use std::alloc::Global;
 
-// The greatest length of an executable or of a file of signatures that is fetched, in bytes.
+// The greatest length of an executable that is fetched, in bytes.
 const GREATEST_FILE: usize = 262_144;
 
 // The greatest length of a text or a listing that is fetched, in bytes.
@@ -87,55 +85,4 @@ pub(crate) fn fetch_assembled<H: Shelf>(
             kind: ListKind::Length,
         }),
     }
-}
-
-/// What was fetched of a file.
-#[derive(Drop)]
-pub struct FetchedFile {
-    /// The bytes of the file, or its first ones.
-    pub bytes: Vec<u8>,
-    /// Which of these they are.
-    pub part: Fetched,
-}
-
-// What the shelf gives of the file of this name, or the answer that says why it could not be had. The error is want of
-// memory.
-fn fetch_file<H: Shelf>(
-    alloc: Global,
-    name: &str,
-    shelf: &mut H,
-) -> Result<Result<FetchedFile, Reply>, AllocError>
-    ensures files { H.files shelf.new ≡ H.files shelf.old }
-    ensures fetches { FetchesOne name.now
-        (shelf_change H.files H.asked H.absences H.faults shelf.old shelf.new) result }
-{
-    let mut bytes = Vec::new(alloc);
-    match shelf.fetch(alloc, name, GREATEST_FILE, &mut bytes) {
-        Ok(part) => Ok(Ok(FetchedFile { bytes, part })),
-        Err(ShelfFault::Absent) => Ok(Err(Reply::NoFile)),
-        Err(ShelfFault::Failed) => Ok(Err(Reply::FileFault)),
-        Err(ShelfFault::Memory) => Err(AllocError),
-    }
-}
-
-/// What the shelf gives of two files. It is asked for the second one too where it has not the first. The error is the
-/// answer that says why one of them could not be had, the first one where neither could; or that memory ran out.
-pub(crate) fn fetch_two<H: Shelf>(
-    alloc: Global,
-    name: &str,
-    other: &str,
-    shelf: &mut H,
-) -> Result<(FetchedFile, FetchedFile), Reply>
-    ensures { FetchesTwo name.now other.now
-        (shelf_change H.files H.asked H.absences H.faults shelf.old shelf.new) result }
-{
-    let Ok(first) = fetch_file(alloc, name, shelf) else {
-        return Err(Reply::Memory);
-    };
-    let Ok(second) = fetch_file(alloc, other, shelf) else {
-        return Err(Reply::Memory);
-    };
-    let file = first?;
-    let text = second?;
-    Ok((file, text))
 }

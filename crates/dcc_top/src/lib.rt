@@ -7,7 +7,6 @@ pub mod execute;
 pub mod fetch;
 pub mod make_job;
 pub mod procedures;
-pub mod recognise_job;
 pub mod reply;
 pub mod text_job;
 pub mod top;

@@ -2,7 +2,7 @@
 
 ghost use Rattle.std.specs.Prelude.{◌≡◌, Some, IfOk, IsOk, string_bytes};
 ghost use Rattle.dcc_top.specs.Answer.{status_of, line_of, limit_word, foul_word, listing_word, shelf_reply};
-ghost use Rattle.dcc_top.specs.Answer.{fault_reply, signatures_reply, signatures_word};
+ghost use Rattle.dcc_top.specs.Answer.{fault_reply};
 ghost use Rattle.dcc_top.specs.Answer.{parse_reply, listing_reply, refusal_reply, reason_reply, no_trial_reply};
 
 use dcc_asm::{ListFault, ListKind};
@@ -11,7 +11,6 @@ use dcc_mz::MzFault;
 use dcc_parse::{ParseFault, ParseKind};
 use dcc_pipe::NoText;
 use dcc_prog::{ConstructKind, FoulKind, LimitName, Refusal};
-use dcc_sigs::{SigFault, SigKind};
 use dcc_trial::NoTrial;
 use std::alloc::{AllocError, Global};
 use std::fmt;
@@ -19,8 +18,7 @@ use std::fmt;
 /// An answer of the program.
 #[derive(Clone, Copy, PartialEq, Eq, Debug)]
 pub enum Reply {
-    /// What is made of the executable is written, or the bytes of the listing, or the lines of the trial or of recognised
-    /// procedures.
+    /// What is made of the executable is written, or the bytes of the listing, or the lines of the trial.
     Done,
     /// The run ended with this exit code.
     Exited(u8),
@@ -57,11 +55,6 @@ pub enum Reply {
     ListingFault {
         line: u32,
         kind: ListKind,
-    },
-    /// The signatures are refused for what offends first, in this line.
-    SignaturesFault {
-        line: u32,
-        kind: SigKind,
     },
     /// The run goes on after this number of steps.
     Unfinished(u64),
@@ -125,17 +118,6 @@ impl From<ListFault> for Reply {
     }
 }
 
-impl From<SigFault> for Reply {
-    ghost from_gives = { λ fault reply. reply ≡ signatures_reply fault };
-
-    fn from(fault: SigFault) -> Reply {
-        match fault {
-            SigFault::At { line, kind } => Reply::SignaturesFault { line, kind },
-            SigFault::Memory => Reply::Memory,
-        }
-    }
-}
-
 impl From<Refusal> for Reply {
     ghost from_gives = { λ refusal reply. reply ≡ refusal_reply refusal };
 
@@ -195,7 +177,6 @@ impl Reply {
             Reply::Foul { .. } => 23,
             Reply::Stuck(_) => 24,
             Reply::ListingFault { .. } => 25,
-            Reply::SignaturesFault { .. } => 27,
         }
     }
 
@@ -245,10 +226,6 @@ impl fmt::Display for Reply {
                 let word = listing_word(kind);
                 writeln!(f, "dcc: listing {word} at line {line}")
             }
-            Reply::SignaturesFault { line, kind } => {
-                let word = signatures_word(kind);
-                writeln!(f, "dcc: signatures {word} at line {line}")
-            }
             Reply::Unfinished(steps) => writeln!(f, "running after {steps} steps"),
             Reply::Divided => writeln!(f, "divide"),
             Reply::Outside(at) => writeln!(f, "outside at {at:04X}"),
@@ -297,15 +274,5 @@ fn listing_word(kind: ListKind) -> &'static str
         ListKind::Range => "range",
         ListKind::Odd => "odd",
         ListKind::Place => "place",
-    }
-}
-
-// The word for the way in which a line of signatures offends.
-fn signatures_word(kind: SigKind) -> &'static str
-    ensures { result.now ≡ signatures_word kind }
-{
-    match kind {
-        SigKind::Form => "form",
-        SigKind::Twice => "twice",
     }
 }

@@ -12,7 +12,6 @@ use crate::deliver::{WRITE_FAULT, answer};
 use crate::execute::execute;
 use crate::fetch::{fetch_image, fetch_unit};
 use crate::make_job::make_reply;
-use crate::recognise_job::recognise_reply;
 use crate::reply::Reply;
 use crate::text_job::execute_unit;
 use crate::trial_job::write_trial;
@@ -105,7 +104,6 @@ fn reply_for<H: Shelf, I: Source, O: Sink>(
         Some(Job::ExecuteText(run)) => runc_reply(alloc, run, shelf, input, out),
         Some(Job::Assemble(file)) => assemble_reply(alloc, file, shelf, out),
         Some(Job::Try(attempt)) => write_trial(alloc, attempt, rules, out),
-        Some(Job::Recognise(recognition)) => recognise_reply(alloc, recognition, shelf, out),
     }
 }
 
@@ -113,20 +111,19 @@ fn reply_for<H: Shelf, I: Source, O: Sink>(
 ///
 /// `c FILE` writes the text of the executable FILE to `out`, made by the rules, `procs FILE` the list of its procedures,
 /// and `list FILE` the listing of its image in assembler's words. `run FILE` runs it, on the input and to the output,
-/// for at most the steps of `--steps N`; `watch FILE` runs it so up to the first step that isn't clean. `sigs FILE SIGS`
-/// writes a line for each of its procedures that a signature of the file SIGS tells. These six take the program as one of
-/// the processor of `--cpu CPU`. `runc FILE` runs the text FILE, for at most the steps of
+/// for at most the steps of `--steps N`; `watch FILE` runs it so up to the first step that isn't clean. These five take
+/// the program as one of the processor of `--cpu CPU`. `runc FILE` runs the text FILE, for at most the steps of
 /// `--steps N` and with the fill of `--fill N`. `asm FILE` writes the bytes for which the listing FILE stands.
 /// `trial SEED SIZE STEPS` makes a program at random, runs it and its text, and writes six lines on both. No other words
 /// are a command.
 ///
 /// Statuses: 0 where what is made, listed, assembled or told is written or the run has ended by its exit; 2 usage, 3 no
-/// file, 4 a file could not be read, 5 the input could not, 6 a write failed, 7 memory ran out, 8 the file is no
+/// file, 4 the file could not be read, 5 the input could not, 6 a write failed, 7 memory ran out, 8 the file is no
 /// executable, 9 a construct stands in the program for which nothing is written, 10 a count of the program is too
 /// great, 11 the file is no text, 12 the text would lack the shape that its procedures ask for, 20 the run goes on
 /// after the steps that were asked for, 21 it ended by a divide fault, 22 it came to what is no instruction, 23 the
-/// next step isn't clean, 24 the text has no step there, 25 the file is no listing or a limit is passed, 27 the
-/// file is no signatures. A status other than 0 and 6 has its line on `err`, and the exit of a run too.
+/// next step isn't clean, 24 the text has no step there, 25 the file is no listing or a limit is passed. A status other
+/// than 0 and 6 has its line on `err`, and the exit of a run too.
 pub fn dcc<H: Shelf, I: Source, O: Sink, E: Sink>(
     alloc: Global,
     words: &Vec<String>,

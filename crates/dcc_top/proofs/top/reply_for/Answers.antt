@@ -44,8 +44,3 @@ pub returns-in-Some-Assemble-clause-replies : goal.returns-in-Some-Assemble-clau
 returns-in-Some-Assemble-clause-replies g c =
     let job = rw (c.deref.ensures.value, c.in-Some-Assemble.field-0-is) at c.in-Some-Assemble.ensures.job in
     rw job (c.assemble_reply.ensures (g.I.Source.left c.args.input.now) (g.I.Source.faults c.args.input.now))
-
-pub returns-in-Some-Recognise-clause-replies : goal.returns-in-Some-Recognise-clause-replies
-returns-in-Some-Recognise-clause-replies g c =
-    let job = rw (c.deref.ensures.value, c.in-Some-Recognise.field-0-is) at c.in-Some-Recognise.ensures.job in
-    rw job (c.recognise_reply.ensures (g.I.Source.left c.args.input.now) (g.I.Source.faults c.args.input.now))
